@@ -1,0 +1,72 @@
+-- The laws of positions and their words.
+use mathlib.Core.Path.{_≡_, refl, sym, ap, _∙_, subst}
+use mathlib.Core.Bool.{Bool, true, false}
+use mathlib.Core.Logic.{⊎-elim}
+use Prim.Native.Nat.{ℕ, zero, suc, _+_, _-_, _^_, _≤_, _<_}
+use native.Mathlib.Omega.{arith}
+use borrow.Author.Tests.{lt-ltb, le-ltb, ltb-true, ltb-false, leb-true, leb-false}
+use lib.Dec.{T, ltb}
+use lib.IntN.{ℤ, pos, negsuc, natAbs, _+ℤ_, _-ℤ_}
+use lib.Signed.{leZ, ltZ}
+use Rattle.integers.specs.Integer.{plus, minus}
+use Rattle.integers.proofs.Balance.{abs-is, eqZ, bal-add, bal-sub, sign}
+use Rattle.position.specs.Position.{inRange, wordOf, positionOf}
+
+-- ---- the range, by the two sides of a number
+
+pub range-yes : (p : ℤ) → plus p + minus p < 2 ^ 62 → inRange p ≡ true
+unfolding inRange
+range-yes p h = lt-ltb (natAbs p) (2 ^ 62) (omega (arith, abs-is p))
+
+pub range-no : (p : ℤ) → 2 ^ 62 ≤ plus p + minus p → inRange p ≡ false
+unfolding inRange
+range-no p h = le-ltb (natAbs p) (2 ^ 62) (omega (arith, abs-is p))
+
+pub range-is : (p : ℤ) → inRange p ≡ true → plus p + minus p < 2 ^ 62
+unfolding inRange
+range-is p h = omega (arith, abs-is p, ltb-true (natAbs p) (2 ^ 62) h)
+
+-- the two tests of the code
+pub upper : (p : ℤ) → leZ (negsuc (2 ^ 62 - 2)) p ≡ true → ltZ p (pos (2 ^ 62)) ≡ inRange p
+unfolding inRange
+upper (pos a) h = refl
+upper (negsuc a) h = sym (lt-ltb (suc a) (2 ^ 62) (omega (arith, leb-true a _ h)))
+
+pub lower : (p : ℤ) → leZ (negsuc (2 ^ 62 - 2)) p ≡ false → leZ (negsuc (2 ^ 62 - 2)) p ≡ inRange p
+unfolding inRange
+lower (pos a) h = absurd (subst T h tt)
+lower (negsuc a) h = h ∙ sym (le-ltb (suc a) (2 ^ 62) (omega (arith, leb-false a _ h)))
+
+-- ---- a word and its position
+
+-- the balance of a word's position
+pub bal-position : (w : ℕ) → plus (positionOf w) + 2 ^ 62 ≡ w + minus (positionOf w)
+unfolding positionOf
+bal-position w = omega (arith, bal-sub (pos w) (pos (2 ^ 62)))
+
+-- the balance of a position's word
+pub bal-word : (p : ℤ) → inRange p ≡ true → wordOf p + minus p ≡ plus p + 2 ^ 62
+unfolding wordOf
+bal-word (pos n) h = omega arith
+bal-word (negsuc n) h = omega (arith, range-is (negsuc n) h)
+
+-- the words of positions are those from 1 to 2 ^ 63 - 1
+pub word-low : (p : ℤ) → inRange p ≡ true → 0 < wordOf p
+word-low p h = omega (arith, bal-word p h, range-is p h)
+
+pub word-high : (p : ℤ) → inRange p ≡ true → wordOf p < 2 ^ 63
+word-high p h = ⊎-elim (λ e. omega (arith, e, bal-word p h, range-is p h)) (λ e. omega (arith, e, bal-word p h, range-is p h)) (sign p)
+
+pub position-small : (w : ℕ) → 0 < w → w < 2 ^ 63 → plus (positionOf w) + minus (positionOf w) < 2 ^ 62
+position-small w h k = ⊎-elim (λ e. omega (arith, e, bal-position w)) (λ e. omega (arith, e, bal-position w)) (sign (positionOf w))
+
+pub position-in-range : (w : ℕ) → 0 < w → w < 2 ^ 63 → inRange (positionOf w) ≡ true
+position-in-range w h k = range-yes (positionOf w) (position-small w h k)
+
+-- HEADLINE: the word of a position holds that position.
+pub position-word : (p : ℤ) → inRange p ≡ true → positionOf (wordOf p) ≡ p
+position-word p h = eqZ _ _ (omega (arith, bal-position (wordOf p), bal-word p h))
+
+-- HEADLINE: the position of a word has that word.
+pub word-position : (w : ℕ) → 0 < w → w < 2 ^ 63 → wordOf (positionOf w) ≡ w
+word-position w h k = omega (arith, bal-position w, bal-word (positionOf w) (position-in-range w h k))

@@ -1,0 +1,18 @@
+-- Positions and the words that hold them: document 01, "One row, four words".
+use mathlib.Core.Bool.{Bool}
+use Prim.Native.Nat.{ℕ, suc, _+_, _-_, _^_}
+use lib.Dec.{ltb}
+use lib.IntN.{ℤ, pos, negsuc, natAbs, _-ℤ_}
+
+-- A position runs from -(2 ^ 62 - 1) to 2 ^ 62 - 1.
+unfoldable pub inRange : ℤ → Bool
+inRange p = ltb (natAbs p) (2 ^ 62)
+
+-- A row's word 0 is its position + 2 ^ 62.
+unfoldable pub wordOf : ℤ → ℕ
+wordOf (pos n) = n + 2 ^ 62
+wordOf (negsuc n) = 2 ^ 62 - suc n
+
+-- The position of a row whose word 0 is w.
+unfoldable pub positionOf : ℕ → ℤ
+positionOf w = pos w -ℤ pos (2 ^ 62)
