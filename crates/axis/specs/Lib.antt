@@ -1,2 +1,4 @@
 pub mod Kind
 pub mod Config
+pub mod Row
+pub mod Sound

@@ -1,0 +1,7 @@
+pub mod Lines
+pub mod Filter
+pub mod Decode
+pub mod Count
+pub mod Pace
+pub mod Index
+pub mod Step
