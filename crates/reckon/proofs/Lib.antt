@@ -1,0 +1,5 @@
+pub mod WideningLaws
+pub mod NearestLaws
+pub mod RoundingLaws
+pub mod SpeedLaws
+pub mod ReckonedLaws

@@ -1,0 +1,5 @@
+pub mod Reckoned
+pub mod Widening
+pub mod Nearest
+pub mod Rounding
+pub mod Speed
