@@ -10,9 +10,10 @@ use lib.ListN.{getD, length}
 use Rattle.fields.specs.Field.{fieldOf, flagOf, bitOf}
 use Rattle.fields.specs.Layout.{split, join, Within}
 use Rattle.fields.proofs.LayoutLaws.{split-join, join-split}
+use Rattle.axis.specs.declared.config.Config.{Config}
 use Rattle.axis.specs.declared.row.Axis.{Axis}
 use Rattle.axis.specs.declared.row.Row.{Row}
-use Rattle.axis.specs.Row.{layout, fieldsOf, axisOf, rowOf, word1Of, word2Of, Narrow, Held, Words, Agree}
+use Rattle.axis.specs.Row.{layout, fieldsOf, axisOf, rowOf, word1Of, word2Of, freshAt, Narrow, Held, Words, Agree}
 
 -- A bit that is read as a flag is that bit again.
 bit-flag-at : (x : ℕ) → x < 2 → bitOf (eqb x 1) ≡ x
@@ -64,6 +65,25 @@ agree h = λ i. record {
 -- The axis of any row is one that a row can hold.
 pub row-held : (r : Row) → Held (axisOf r)
 row-held r = record { narrow = omega arith; age = omega arith; period = omega arith; levels = refl; runs = refl }
+
+-- A row can hold what setup makes of a configuration within the widths of its fields.
+pub fresh-held : (c : Config) (w : ℕ) → c .kind < 2 ^ 4 → c .depth < 2 ^ 4 → c .width < 2 ^ 6 → Held (freshAt c w)
+fresh-held c w kind depth width = record {
+  narrow = record {
+    kind = kind;
+    depth = depth;
+    width = width;
+    runA = lit< tt;
+    runB = lit< tt;
+    runZ = lit< tt;
+    doubles = lit< tt;
+    direction = lit< tt;
+  };
+  age = lit< tt;
+  period = lit< tt;
+  levels = refl;
+  runs = refl;
+}
 
 -- Word 1, unpacked and packed, where the bits that have no name are 0.
 word1-again : (r : Row) → r .w1 < 2 ^ 64 → fieldOf 31 1 (r .w1) ≡ 0 → fieldOf 50 14 (r .w1) ≡ 0 → word1Of (axisOf r) ≡ r .w1
