@@ -1,11 +1,14 @@
 -- Which rows are sound: document 01, "One row, four words".
-use Prim.Native.Nat.{ℕ, _^_}
-use mathlib.Core.Bool.{Bool, false, cond, not, _&&_, _||_}
+use Prim.Native.Nat.{ℕ, _-_, _^_, _<_, _≤_}
+use mathlib.Core.Path.{_≡_}
+use mathlib.Core.Bool.{Bool, true, false, cond, not, _&&_, _||_}
 use lib.Dec.{eqb, leb, ltb}
-use lib.ListN.{getD}
+use lib.ListN.{getD, length}
 use Rattle.fields.specs.Field.{fieldOf}
-use Rattle.axis.specs.Kind.{sampledKind, counterKind}
-use Rattle.axis.specs.Row.{axisOf}
+use Rattle.axis.specs.Kind.{COUNTER, sampledKind}
+use Rattle.axis.specs.Config.{sampledConfig, counterConfig}
+use Rattle.axis.specs.Row.{axisOf, freshAt}
+use Rattle.axis.specs.declared.config.Config.{Config}
 use Rattle.axis.specs.declared.row.Axis.{Axis}
 use Rattle.axis.specs.declared.row.Row.{Row}
 use Rattle.axis.specs.declared.sound.Status.{Status}
@@ -28,30 +31,96 @@ isFresh a =
     && eqb (getD (a .runs) 0 0) 0 && eqb (getD (a .runs) 1 0) 0 && eqb (getD (a .runs) 2 0) 0
     && eqb (a .doubles) 0 && eqb (a .direction) 0 && eqb (a .age) 0 && eqb (a .period) 0
 
--- A sampled kind; depth 1 to 8; width 0; each run below depth; ARMED and HOMED not both; direction not 3; period at most 2 ^ 32 - 2, and 0 where
--- direction is 0; INDEX only with counts per turn above 0; and fresh where PRIMED is 0.
-abbrev pub isSampler : Axis → Bool
-isSampler a =
-    sampledKind (a .kind)
-    && leb 1 (a .depth) && leb (a .depth) 8 && eqb (a .width) 0
-    && ltb (getD (a .runs) 0 0) (a .depth) && ltb (getD (a .runs) 1 0) (a .depth) && ltb (getD (a .runs) 2 0) (a .depth)
+-- Each run is below the depth.
+abbrev pub isShort : Axis → Bool
+isShort a = ltb (getD (a .runs) 0 0) (a .depth) && ltb (getD (a .runs) 1 0) (a .depth) && ltb (getD (a .runs) 2 0) (a .depth)
+
+-- Direction is not 3, and period is at most 2 ^ 32 - 2, and 0 where direction is 0.
+abbrev pub isPaced : Axis → Bool
+isPaced a = not (eqb (a .direction) 3) && leb (a .period) (2 ^ 32 - 2) && (not (eqb (a .direction) 0) || eqb (a .period) 0)
+
+-- The rest of a sampled axis: short runs, ARMED and HOMED not both, a sound pace, INDEX only with counts per turn above 0, and fresh where PRIMED is 0.
+abbrev pub isConsistent : Axis → Bool
+isConsistent a =
+    isShort a
     && not (a .armed && a .homed)
-    && not (eqb (a .direction) 3)
-    && leb (a .period) 4294967294 && (not (eqb (a .direction) 0) || eqb (a .period) 0)
+    && isPaced a
     && (not (a .index) || ltb 0 (a .turn))
     && (a .primed || isFresh a)
 
 -- A sampled row.
 abbrev pub isSampled : Row → Bool
-isSampled r = isPlain r && isSampler (axisOf r)
+isSampled r =
+    isPlain r
+    && sampledConfig (fieldOf 0 4 (r .w1)) (fieldOf 4 4 (r .w1)) (fieldOf 8 6 (r .w1)) (r .w3)
+    && isConsistent (axisOf r)
 
--- A counter row: its kind, width 2 to 32, depth 0, bits 14 to 63 of word 1 zero, words 2 and 3 zero.
+-- A counter row: bits 14 to 63 of word 1 are zero, and so is word 2.
 abbrev pub isCounter : Row → Bool
 isCounter r =
     isPlain r
-    && counterKind (fieldOf 0 4 (r .w1)) && leb 2 (fieldOf 8 6 (r .w1)) && leb (fieldOf 8 6 (r .w1)) 32 && eqb (fieldOf 4 4 (r .w1)) 0
-    && eqb (fieldOf 14 50 (r .w1)) 0 && eqb (r .w2) 0 && eqb (r .w3) 0
+    && counterConfig (fieldOf 0 4 (r .w1)) (fieldOf 4 4 (r .w1)) (fieldOf 8 6 (r .w1)) (r .w3)
+    && eqb (fieldOf 14 50 (r .w1)) 0
+    && eqb (r .w2) 0
 
 -- What a row is: empty, sampled or counter, and broken where it is none of these.
 unfoldable pub statusOf : Row → Status
 statusOf r = cond (isEmpty r) Empty (cond (isSampled r) Sampled (cond (isCounter r) Counter Broken))
+
+-- The test that a row of each status passes; a broken row passes none of the other three.
+unfoldable pub passes : Status → Row → Bool
+passes Empty r = isEmpty r
+passes Sampled r = isSampled r
+passes Counter r = isCounter r
+passes Broken r = not (isEmpty r) && not (isSampled r) && not (isCounter r)
+
+-- An axis that has at 0 what is 0 until priming.
+pub record Fresh (a : Axis) : Type 0 where
+  pub homed : a .homed ≡ false
+  pub range : a .range ≡ false
+  pub index : a .index ≡ false
+  pub levelA : getD (a .levels) 0 false ≡ false
+  pub levelB : getD (a .levels) 1 false ≡ false
+  pub levelZ : getD (a .levels) 2 false ≡ false
+  pub runA : getD (a .runs) 0 0 ≡ 0
+  pub runB : getD (a .runs) 1 0 ≡ 0
+  pub runZ : getD (a .runs) 2 0 ≡ 0
+  pub doubles : a .doubles ≡ 0
+  pub direction : a .direction ≡ 0
+  pub age : a .age ≡ 0
+  pub period : a .period ≡ 0
+
+-- An axis that a sampled row holds.
+pub record SampledAxis (a : Axis) : Type 0 where
+  pub above : 1 ≤ a .word
+  pub below : a .word < 2 ^ 63
+  pub kind : sampledKind (a .kind) ≡ true
+  pub shallow : 1 ≤ a .depth
+  pub deep : a .depth ≤ 8
+  pub width : a .width ≡ 0
+  pub runA : getD (a .runs) 0 0 < a .depth
+  pub runB : getD (a .runs) 1 0 < a .depth
+  pub runZ : getD (a .runs) 2 0 < a .depth
+  pub apart : a .armed && a .homed ≡ false
+  pub direction : a .direction < 3
+  pub period : a .period ≤ 2 ^ 32 - 2
+  pub resting : a .direction ≡ 0 → a .period ≡ 0
+  pub index : a .index ≡ true → 0 < a .turn
+  pub unprimed : a .primed ≡ false → Fresh a
+  pub doubles : a .doubles < 2 ^ 16
+  pub age : a .age < 2 ^ 32
+  pub turn : a .turn < 2 ^ 32
+  pub levels : length (a .levels) ≡ 3
+  pub runs : length (a .runs) ≡ 3
+
+-- The configuration of a counter of a width.
+abbrev pub counterOf : ℕ → Config
+counterOf width = record { kind = COUNTER; depth = 0; width = width; turn = 0 }
+
+-- An axis that a counter row holds: all but its width and its word is as setup leaves it.
+pub record CounterAxis (a : Axis) : Type 0 where
+  pub above : 1 ≤ a .word
+  pub below : a .word < 2 ^ 63
+  pub narrow : 2 ≤ a .width
+  pub wide : a .width ≤ 32
+  pub rest : a ≡ freshAt (counterOf (a .width)) (a .word)

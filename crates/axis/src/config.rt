@@ -10,13 +10,15 @@ pub struct Config {
     pub turn: u32,
 }
 
-fn is_sampled(kind: u64, depth: u64, width: u64, turn: u64) -> bool
+// Whether four plain numbers are a sampled axis's configuration.
+pub fn is_sampled(kind: u64, depth: u64, width: u64, turn: u64) -> bool
     ensures { λ r. ⌜ r ≡ sampledConfig kind depth width turn ⌝ }
 {
     Kind::is_sampled(kind) & (1 <= depth) & (depth <= 8) & (width == 0) & (turn < 4294967296)
 }
 
-fn is_counter(kind: u64, depth: u64, width: u64, turn: u64) -> bool
+// Whether four plain numbers are a narrow counter's configuration.
+pub fn is_counter(kind: u64, depth: u64, width: u64, turn: u64) -> bool
     ensures { λ r. ⌜ r ≡ counterConfig kind depth width turn ⌝ }
 {
     Kind::is_counter(kind) & (2 <= width) & (width <= 32) & (depth == 0) & (turn == 0)

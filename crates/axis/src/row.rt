@@ -1,4 +1,7 @@
-// An axis, and the row that holds it.
+// The four words of a row, and the axis that they hold.
+ghost use mathlib.Core.Path.{_≡_};
+ghost use Rattle.axis.specs.Row.{blank, fresh, freshAt};
+use crate::config::Config;
 
 // The four words of a row.
 pub struct Row {
@@ -26,4 +29,50 @@ pub struct Axis {
     pub age: u32,
     pub period: u32,
     pub turn: u32,
+}
+
+impl Axis {
+    // The axis of an erased row.
+    pub fn erased() -> Axis
+        ensures { λ r. ⌜ r ≡ blank ⌝ }
+    {
+        Axis {
+            word: 0,
+            kind: 0,
+            depth: 0,
+            width: 0,
+            primed: false,
+            armed: false,
+            homed: false,
+            range: false,
+            index: false,
+            levels: [false, false, false],
+            runs: [0, 0, 0],
+            doubles: 0,
+            direction: 0,
+            age: 0,
+            period: 0,
+            turn: 0,
+        }
+    }
+
+    // The axis that a setup makes, at the position that has this word.
+    pub fn setup_at(c: Config, word: u64) -> Axis
+        ensures { λ r. ⌜ r ≡ freshAt c word ⌝ }
+    {
+        let mut a = Axis::erased();
+        a.word = word;
+        a.kind = c.kind;
+        a.depth = c.depth;
+        a.width = c.width;
+        a.turn = c.turn;
+        a
+    }
+
+    // The axis that a setup makes, at position 0.
+    pub fn setup(c: Config) -> Axis
+        ensures { λ r. ⌜ r ≡ fresh c ⌝ }
+    {
+        Axis::setup_at(c, 4611686018427387904)
+    }
 }

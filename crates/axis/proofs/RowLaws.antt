@@ -1,0 +1,156 @@
+-- The laws of a row and its axis: what is unpacked packs to the same words, and what is packed comes back.
+use Prim.Native.Nat.{ℕ, zero, suc, _/_, _^_, _<_}
+use native.Mathlib.Nat.{mod-lt}
+use native.Mathlib.Omega.{arith}
+use mathlib.Core.Path.{_≡_, refl, sym, ap, _∙_}
+use mathlib.Core.Bool.{Bool, true, false}
+use mathlib.Core.List.{List, [], _∷_}
+use lib.Dec.{eqb, lit<}
+use lib.ListN.{getD, length}
+use Rattle.fields.specs.Field.{fieldOf, flagOf, bitOf}
+use Rattle.fields.specs.Layout.{split, join, Within}
+use Rattle.fields.proofs.LayoutLaws.{split-join, join-split}
+use Rattle.axis.specs.declared.config.Config.{Config}
+use Rattle.axis.specs.declared.row.Axis.{Axis}
+use Rattle.axis.specs.declared.row.Row.{Row}
+use Rattle.axis.specs.Row.{layout, fieldsOf, axisOf, rowOf, word1Of, word2Of, freshAt, Narrow, Held, Words, Agree}
+
+-- A bit that is read as a flag is that bit again.
+bit-flag-at : (x : ℕ) → x < 2 → bitOf (eqb x 1) ≡ x
+bit-flag-at zero h = refl
+bit-flag-at (suc zero) h = refl
+bit-flag-at (suc (suc x)) h = absurd (omega arith)
+
+bit-flag : (at w : ℕ) → bitOf (flagOf at w) ≡ fieldOf at 1 w
+bit-flag at w = bit-flag-at (fieldOf at 1 w) (mod-lt (w / 2 ^ at) (lit< tt))
+
+-- A flag that is written as a bit is that flag again.
+flag-bit : (b : Bool) → eqb (bitOf b) 1 ≡ b
+flag-bit true = refl
+flag-bit false = refl
+
+bit-below : (b : Bool) → bitOf b < 2
+bit-below true = lit< tt
+bit-below false = lit< tt
+
+-- A list of three is its three elements.
+three : {A : Type 0} (l : List A) (d : A) → length l ≡ 3 → getD l 0 d ∷ getD l 1 d ∷ getD l 2 d ∷ [] ≡ l
+three (x ∷ y ∷ z ∷ []) d h = refl
+three [] d h = absurd (omega arith)
+three (x ∷ []) d h = absurd (omega arith)
+three (x ∷ y ∷ []) d h = absurd (omega arith)
+three (x ∷ y ∷ z ∷ t ∷ l) d h = absurd (omega arith)
+
+-- Two axes that agree are one.
+pub agree : {r s : Axis} → Agree r s → r ≡ s
+agree h = λ i. record {
+  word = h .word i;
+  kind = h .kind i;
+  depth = h .depth i;
+  width = h .width i;
+  primed = h .primed i;
+  armed = h .armed i;
+  homed = h .homed i;
+  range = h .range i;
+  index = h .index i;
+  levels = h .levels i;
+  runs = h .runs i;
+  doubles = h .doubles i;
+  direction = h .direction i;
+  age = h .age i;
+  period = h .period i;
+  turn = h .turn i;
+}
+
+-- The axis of any row is one that a row can hold.
+pub row-held : (r : Row) → Held (axisOf r)
+row-held r = record { narrow = omega arith; age = omega arith; period = omega arith; levels = refl; runs = refl }
+
+-- A row can hold what setup makes of a configuration within the widths of its fields.
+pub fresh-held : (c : Config) (w : ℕ) → c .kind < 2 ^ 4 → c .depth < 2 ^ 4 → c .width < 2 ^ 6 → Held (freshAt c w)
+fresh-held c w kind depth width = record {
+  narrow = record {
+    kind = kind;
+    depth = depth;
+    width = width;
+    runA = lit< tt;
+    runB = lit< tt;
+    runZ = lit< tt;
+    doubles = lit< tt;
+    direction = lit< tt;
+  };
+  age = lit< tt;
+  period = lit< tt;
+  levels = refl;
+  runs = refl;
+}
+
+-- Word 1, unpacked and packed, where the bits that have no name are 0.
+word1-again : (r : Row) → r .w1 < 2 ^ 64 → fieldOf 31 1 (r .w1) ≡ 0 → fieldOf 50 14 (r .w1) ≡ 0 → word1Of (axisOf r) ≡ r .w1
+word1-again r h low high =
+    let w = r .w1 in
+    (λ i. join 0 layout
+    (fieldOf 0 4 w ∷ fieldOf 4 4 w ∷ fieldOf 8 6 w
+    ∷ bit-flag 14 w i ∷ bit-flag 15 w i ∷ bit-flag 16 w i ∷ bit-flag 17 w i ∷ bit-flag 18 w i
+    ∷ bit-flag 19 w i ∷ bit-flag 20 w i ∷ bit-flag 21 w i
+    ∷ fieldOf 22 3 w ∷ fieldOf 25 3 w ∷ fieldOf 28 3 w
+    ∷ sym low i ∷ fieldOf 32 16 w ∷ fieldOf 48 2 w ∷ sym high i ∷ []))
+    ∙ join-split layout w h
+
+-- A row whose bits without a name are 0 is what its axis packs to.
+pub row-again : (r : Row) → Words r → fieldOf 31 1 (r .w1) ≡ 0 → fieldOf 50 14 (r .w1) ≡ 0 → rowOf (axisOf r) ≡ r
+row-again r h low high = λ i. record {
+  w0 = r .w0;
+  w1 = word1-again r (h .w1) low high i;
+  w2 = join-split (32 ∷ 32 ∷ []) (r .w2) (h .w2) i;
+  w3 = r .w3;
+}
+
+within : (a : Axis) → Narrow a → Within layout (fieldsOf a)
+within a h =
+    omega (
+      arith,
+      bit-below (a .primed),
+      bit-below (a .armed),
+      bit-below (a .homed),
+      bit-below (a .range),
+      bit-below (a .index),
+      bit-below (getD (a .levels) 0 false),
+      bit-below (getD (a .levels) 1 false),
+      bit-below (getD (a .levels) 2 false),
+    )
+
+-- The field at place k of word 1, packed and read.
+pub back : (a : Axis) → Narrow a → (k : ℕ) → getD (split 0 layout (word1Of a)) k 0 ≡ getD (fieldsOf a) k 0
+back a h k = ap (λ (l : List ℕ). getD l k 0) (split-join layout (fieldsOf a) (within a h))
+
+back-flag : (a : Axis) → Narrow a → (k : ℕ) (b : Bool) → getD (fieldsOf a) k 0 ≡ bitOf b → eqb (getD (split 0 layout (word1Of a)) k 0) 1 ≡ b
+back-flag a h k b e = ap (λ (x : ℕ). eqb x 1) (back a h k ∙ e) ∙ flag-bit b
+
+-- HEADLINE: an axis that a row can hold comes back from its row as it was.
+pub comes-back : (a : Axis) → Held a → axisOf (rowOf a) ≡ a
+comes-back a h =
+    let n = h .narrow in
+    let two : split 0 (32 ∷ 32 ∷ []) (word2Of a) ≡ a .age ∷ a .period ∷ [] = split-join (32 ∷ 32 ∷ []) (a .age ∷ a .period ∷ []) (h .age, (h .period, tt)) in
+    agree (record {
+      word = refl;
+      kind = back a n 0;
+      depth = back a n 1;
+      width = back a n 2;
+      primed = back-flag a n 3 (a .primed) refl;
+      armed = back-flag a n 4 (a .armed) refl;
+      homed = back-flag a n 5 (a .homed) refl;
+      range = back-flag a n 6 (a .range) refl;
+      index = back-flag a n 7 (a .index) refl;
+      levels =
+          (λ j. back-flag a n 8 (getD (a .levels) 0 false) refl j
+          ∷ back-flag a n 9 (getD (a .levels) 1 false) refl j
+          ∷ back-flag a n 10 (getD (a .levels) 2 false) refl j ∷ [])
+          ∙ three (a .levels) false (h .levels);
+      runs = (λ j. back a n 11 j ∷ back a n 12 j ∷ back a n 13 j ∷ []) ∙ three (a .runs) 0 (h .runs);
+      doubles = back a n 15;
+      direction = back a n 16;
+      age = ap (λ (l : List ℕ). getD l 0 0) two;
+      period = ap (λ (l : List ℕ). getD l 1 0) two;
+      turn = refl;
+    })
