@@ -1,0 +1,4 @@
+pub mod BytesLaws
+pub mod StoreLaws
+pub mod FieldLaws
+pub mod WriterLaws

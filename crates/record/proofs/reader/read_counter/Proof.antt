@@ -1,0 +1,56 @@
+use borrow.Author.Needs.{needs}
+use mathlib.Core.Path.{_≡_, sym, _∙_}
+use Rattle.record.specs.declared.field.Field.the-variants.{Value}
+use Rattle.record.specs.Bytes.{Bytes}
+use Rattle.record.specs.Record.{fieldAt, counterAt, WIDTH}
+use Rattle.record.proofs.FieldLaws.{field-below}
+use Rattle.record.proofs.reader.read_counter.Statement.{statement}
+use Rattle.record.proofs.reader.read_counter.Tie as tie
+
+module _ (c : tie.After-width) where
+  abbrev start : tie.Start
+  start = c .before .before .before .before
+
+  bytes : Bytes (start .args .slice .now)
+  bytes k = c .before .before .before .shared-slice-known .given k .fits
+
+  -- the width that was read
+  found : fieldAt (start .args .slice .now) (start .args .at) WIDTH 1 ≡ Value (c .width .given .0 .0) (c .width .given .0 .1 .0)
+  found = sym (c .before .before .read-field .ensures) ∙ c .width .given .1
+
+read-field-requires : tie.Need-read-field-requires
+read-field-requires c κs = search needs
+
+enum-known-width : tie.Need-enum-known-width
+enum-known-width c = search needs
+
+enum-told : tie.Need-enum-told
+enum-told c = search needs
+
+returns : tie.Need-returns
+unfolding counterAt
+returns c = rw (sym (c .before .before .read-field .ensures) ∙ c .enum-told .given .1)
+
+cast-width : tie.Need-cast-width
+cast-width c =
+    let st = start (c .before) in
+    record { fits = field-below (st .args .slice .now) (st .args .at) WIDTH 1 (bytes (c .before)) (found (c .before)) }
+
+ended-requires : tie.Need-ended-requires
+ended-requires c κs = search needs
+
+returns-2 : tie.Need-returns-2
+unfolding counterAt
+returns-2 c = rw (found (c .before .before)) (c .ended .ensures)
+
+pub read-counter-spec : {M : Type 1} → statement M
+read-counter-spec =
+    tie.close
+    (tie.spec
+    read-field-requires
+    enum-known-width
+    enum-told
+    returns
+    cast-width
+    ended-requires
+    returns-2)

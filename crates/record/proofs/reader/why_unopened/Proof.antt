@@ -1,0 +1,39 @@
+use borrow.Author.Needs.{needs}
+use mathlib.Core.Path.{_≡_, sym, _∙_}
+use Rattle.record.specs.declared.field.Field.the-variants.{Value}
+use Rattle.record.specs.Bytes.{Bytes}
+use Rattle.record.specs.Record.{fieldAt, unopened, LAYOUT}
+use Rattle.record.proofs.FieldLaws.{field-below}
+use Rattle.record.proofs.reader.why_unopened.Statement.{statement}
+use Rattle.record.proofs.reader.why_unopened.Tie as tie
+
+module _ (c : tie.After-layout) where
+  bytes : Bytes (c .before .before .before .before .args .slice .now)
+  bytes k = c .before .before .before .shared-slice-known .given k .fits
+
+  found : fieldAt (c .before .before .before .before .args .slice .now) 0 LAYOUT 2 ≡ Value (c .layout .given .0 .0) (c .layout .given .0 .1 .0)
+  found = sym (c .before .before .read-field .ensures) ∙ c .layout .given .1
+
+read-field-requires : tie.Need-read-field-requires
+read-field-requires c κs = search needs
+
+enum-known-layout : tie.Need-enum-known-layout
+enum-known-layout c = search needs
+
+enum-told : tie.Need-enum-told
+enum-told c = search needs
+
+returns : tie.Need-returns
+unfolding unopened
+returns c = rw (sym (c .before .before .read-field .ensures) ∙ c .enum-told .given .1)
+
+cast-t4 : tie.Need-cast-t4
+cast-t4 c = record { fits = field-below (c .before .before .before .before .before .args .slice .now) 0 LAYOUT 2 (bytes (c .before)) (found (c .before)) }
+
+returns-2 : tie.Need-returns-2
+unfolding unopened
+returns-2 c = rw (found (c .before))
+
+pub why-unopened-spec : {M : Type 1} → statement M
+why-unopened-spec =
+    tie.close (tie.spec read-field-requires enum-known-layout enum-told returns cast-t4 returns-2)
