@@ -1,0 +1,133 @@
+-- What each call makes of the named row, and answers: document 01, "Calls that name one axis" and "The saved record".
+use Prim.Native.Nat.{ℕ, max}
+use mathlib.Core.Bool.{Bool, cond}
+use mathlib.Core.List.{List}
+use lib.Dec.{eqb}
+use lib.IntN.{ℤ, pos, negsuc}
+use Rattle.position.specs.Position.{inRange, wordOf, positionOf}
+use Rattle.refusal.specs.declared.Refusal.{Refusal}
+use Rattle.refusal.specs.declared.Refusal.the-variants.{Broken as BROKEN, Empty as EMPTY, Kind as KIND, Value as VALUE, NoPeriod as NO-PERIOD}
+use Rattle.reckon.specs.Widening.{widened}
+use Rattle.reckon.specs.Speed.{goodRate, speedByCount}
+use Rattle.reckon.specs.declared.Reckoned.{Reckoned}
+use Rattle.reckon.specs.declared.Reckoned.the-variants.{Number, Refused as Unreckoned}
+use Rattle.axis.specs.Config.{goodConfig}
+use Rattle.axis.specs.Row.{axisOf, rowOf, emptyRow, fresh, freshAt}
+use Rattle.axis.specs.Sound.{statusOf}
+use Rattle.axis.specs.declared.config.Config.{Config}
+use Rattle.axis.specs.declared.row.Axis.{Axis}
+use Rattle.axis.specs.declared.row.Row.{Row}
+use Rattle.axis.specs.declared.sound.Status.{Status}
+use Rattle.axis.specs.declared.sound.Status.the-variants.{Empty, Sampled, Counter, Broken}
+use Rattle.record.specs.Record.{readAs, savedAs, written}
+use Rattle.record.specs.declared.answer.Saved.{Saved}
+use Rattle.record.specs.declared.answer.Read.{Read}
+use Rattle.record.specs.declared.answer.Read.the-variants.{Accepted, Refused as Unread}
+use Rattle.record.specs.declared.answer.Written.{Written}
+use Rattle.record.specs.declared.answer.Written.the-variants.{Refused as Unwritten}
+use Rattle.calls.specs.Change.{presetAxis, armAxis, acknowledgeAxis, readAxis}
+use Rattle.calls.specs.Answer.{viewOf}
+use Rattle.calls.specs.declared.answer.Changed.{Changed}
+use Rattle.calls.specs.declared.answer.Changed.the-variants.{To, Kept}
+use Rattle.calls.specs.declared.answer.Viewed.{Viewed}
+use Rattle.calls.specs.declared.answer.Viewed.the-variants.{Shows, Refused as Unseen}
+
+-- The refusals that a row's own state gives, in their order: BROKEN, EMPTY, and then what the call does on a sampled row and on a counter.
+abbrev pub byStatus : {A : Type 0} → (Refusal → A) → A → A → Status → A
+byStatus refuse sampled counter Broken = refuse BROKEN
+byStatus refuse sampled counter Empty = refuse EMPTY
+byStatus refuse sampled counter Sampled = sampled
+byStatus refuse sampled counter Counter = counter
+
+-- ---- setup and erase, which take any row
+
+-- Setup replaces the row, or refuses its arguments.
+unfoldable pub setupRow : ℕ → ℕ → ℕ → ℕ → Row → Changed
+setupRow kind depth width turn r =
+    cond (goodConfig kind depth width turn)
+    (To (rowOf (fresh (record { kind = kind; depth = depth; width = width; turn = turn }))))
+    (Kept VALUE)
+
+-- Erase writes four zero words.
+unfoldable pub eraseRow : Row → Changed
+eraseRow r = To emptyRow
+
+-- ---- calls on a row that is sound and not empty
+
+-- A preset on such a row.
+unfoldable pub placeRow : ℤ → Row → Changed
+placeRow p r = cond (inRange p) (To (rowOf (presetAxis p (axisOf r)))) (Kept VALUE)
+
+-- Preset.
+unfoldable pub presetRow : ℤ → Row → Changed
+presetRow p r = byStatus Kept (placeRow p r) (placeRow p r) (statusOf r)
+
+-- Arm, on a sampled row only.
+unfoldable pub armRow : Row → Changed
+armRow r = byStatus Kept (To (rowOf (armAxis (axisOf r)))) (Kept KIND) (statusOf r)
+
+-- Acknowledge, on a sampled row only.
+unfoldable pub acknowledgeRow : Row → Changed
+acknowledgeRow r = byStatus Kept (To (rowOf (acknowledgeAxis (axisOf r)))) (Kept KIND) (statusOf r)
+
+-- View.
+unfoldable pub viewRow : Row → Viewed
+viewRow r = byStatus Unseen (Shows (viewOf (axisOf r))) (Shows (viewOf (axisOf r))) (statusOf r)
+
+-- What a reading says on a counter row, by the counter's width and position.
+abbrev pub readingOf : ℕ → Axis → Reckoned
+readingOf x a = widened (a .width) (positionOf (a .word)) x
+
+-- The answer of a reading.
+unfoldable pub readingRow : ℕ → Row → Reckoned
+readingRow x r = byStatus Unreckoned (Unreckoned KIND) (readingOf x (axisOf r)) (statusOf r)
+
+-- A position that was reckoned is stored.
+unfoldable pub storedRow : Row → Reckoned → Changed
+storedRow r (Number p) = To (rowOf (readAxis p (axisOf r)))
+storedRow r (Unreckoned e) = Kept e
+
+-- What a reading makes of the row.
+unfoldable pub readRow : ℕ → Row → Changed
+readRow x r = storedRow r (readingRow x r)
+
+-- The sign of a direction: 1 forward, 2 back.
+abbrev pub signOf : ℕ → ℤ
+signOf d = cond (eqb d 2) (negsuc 0) (pos 1)
+
+-- Speed by period on a sampled row: one count over the larger of period and age.
+unfoldable pub speedOf : ℕ → Axis → Reckoned
+speedOf rate a =
+    cond (goodRate rate)
+    (cond (eqb (a .period) 0) (Unreckoned NO-PERIOD) (speedByCount (signOf (a .direction)) (max (a .period) (a .age)) rate))
+    (Unreckoned VALUE)
+
+-- Speed by period.
+unfoldable pub speedRow : ℕ → Row → Reckoned
+speedRow rate r = byStatus Unreckoned (speedOf rate (axisOf r)) (Unreckoned KIND) (statusOf r)
+
+-- ---- save and restore
+
+-- What an axis saves: its configuration and its position.
+abbrev pub savedOf : Axis → Saved
+savedOf a = record {
+  config = record { kind = a .kind; depth = a .depth; width = a .width; turn = a .turn };
+  position = positionOf (a .word);
+}
+
+-- The answer of a save, by the room in the buffer.
+unfoldable pub saveRow : ℕ → Row → Written
+saveRow room r = byStatus Unwritten (savedAs room (savedOf (axisOf r))) (savedAs room (savedOf (axisOf r))) (statusOf r)
+
+-- What a save leaves in the buffer.
+unfoldable pub savedIn : List ℕ → Row → List ℕ
+savedIn buf r = byStatus (λ _. buf) (written buf (savedOf (axisOf r))) (written buf (savedOf (axisOf r))) (statusOf r)
+
+-- What a record that was read makes of any row: the row of setup and then preset.
+unfoldable pub restoredBy : Read → Changed
+restoredBy (Accepted s) = To (rowOf (freshAt (s .config) (wordOf (s .position))))
+restoredBy (Unread e) = Kept e
+
+-- Restore takes any row.
+unfoldable pub restoreRow : List ℕ → Row → Changed
+restoreRow record' r = restoredBy (readAs record')

@@ -1,0 +1,43 @@
+-- What an accepted call makes of an axis: document 01, "Calls that name one axis".
+use Prim.Native.Nat.{ℕ}
+use mathlib.Core.Bool.{Bool, true, false}
+use lib.IntN.{ℤ}
+use Rattle.position.specs.Position.{wordOf}
+use Rattle.axis.specs.declared.row.Axis.{Axis}
+
+-- An axis with another word, other flags ARMED, HOMED, RANGE and INDEX, and other doubles; all else stays.
+unfoldable pub changed : Axis → ℕ → Bool → Bool → Bool → Bool → ℕ → Axis
+changed x word armed homed range index doubles = record {
+  word = word;
+  kind = x .kind;
+  depth = x .depth;
+  width = x .width;
+  primed = x .primed;
+  armed = armed;
+  homed = homed;
+  range = range;
+  index = index;
+  levels = x .levels;
+  runs = x .runs;
+  doubles = doubles;
+  direction = x .direction;
+  age = x .age;
+  period = x .period;
+  turn = x .turn;
+}
+
+-- Preset sets the position and clears RANGE and HOMED.
+abbrev pub presetAxis : ℤ → Axis → Axis
+presetAxis p x = changed x (wordOf p) (x .armed) false false (x .index) (x .doubles)
+
+-- Arm sets ARMED and clears HOMED.
+abbrev pub armAxis : Axis → Axis
+armAxis x = changed x (x .word) true false (x .range) (x .index) (x .doubles)
+
+-- Acknowledge sets doubles to 0 and clears INDEX.
+abbrev pub acknowledgeAxis : Axis → Axis
+acknowledgeAxis x = changed x (x .word) (x .armed) (x .homed) (x .range) false 0
+
+-- A reading that is accepted sets the position.
+abbrev pub readAxis : ℤ → Axis → Axis
+readAxis p x = changed x (wordOf p) (x .armed) (x .homed) (x .range) (x .index) (x .doubles)

@@ -1,0 +1,2 @@
+// What each call that names one axis makes of that axis's row, and answers.
+pub mod answer; // answer.rt: what a call makes of a row, and what it answers
