@@ -56,7 +56,7 @@ readings =
     ∷ (counted (sampledBy (setUp X1 1) (0 ∷ 1 ∷ 3 ∷ 2 ∷ 0 ∷ [])) shows counts (pos 1) 0)
     ∷ (counted (sampledBy (setUp X4 1) (0 ∷ 3 ∷ 2 ∷ [])) shows counts (pos 1) 1)
     ∷ (both (levelled (sampledBy (setUp X4 3) (0 ∷ 1 ∷ 1 ∷ 0 ∷ 1 ∷ 1 ∷ 1 ∷ []))) (levelled (sampledBy (setUp X4 3) (0 ∷ 1 ∷ 1 ∷ 0 ∷ 1 ∷ 1 ∷ [])))
-      shows both (level true (pos 1)) (level false (pos 0)))
+    shows both (level true (pos 1)) (level false (pos 0)))
     ∷ (reckons (widened 8 (pos 250) 3) shows reckons (Number (pos 259)))
     ∷ (reckons (widened 8 (pos 250) 121) shows reckons (Number (pos 377)))
     ∷ (reckons (widened 8 (pos 250) 122) shows reckons (Refused Half))
