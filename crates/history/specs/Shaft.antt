@@ -1,0 +1,54 @@
+-- A shaft as an encoder shows it: document 01, "A port sample", Count. Angles are whole quarter steps.
+use Prim.Native.Nat.{ℕ, _≤_}
+use mathlib.Core.Path.{_≡_}
+use mathlib.Core.Bool.{Bool, false}
+use mathlib.Core.List.{List, [], _∷_, _++_}
+use lib.ListN.{getD}
+use lib.IntN.{ℤ, natAbs, _-ℤ_}
+use Rattle.integers.specs.Integer.{modZ}
+use Rattle.fields.specs.Field.{flagOf}
+use Rattle.axis.specs.declared.row.Axis.{Axis}
+use Rattle.motion.specs.declared.lines.Raw.{Raw}
+use Rattle.history.specs.Acts.{Act, sampled}
+use Rattle.history.specs.Entries.{doubleAt}
+use Rattle.history.specs.Homing.{homesAt}
+
+-- The code at an angle: forward is 0, 1, 3, 2, 0.
+unfoldable pub gray : ℤ → ℕ
+gray angle = getD (0 ∷ 1 ∷ 3 ∷ 2 ∷ []) (modZ angle 4) 0
+
+-- A sample of the shaft: its angle, and any level of Z.
+pub record Turn : Type 0 where
+  pub angle : ℤ
+  pub z : Bool
+
+-- The raw levels of such a sample.
+unfoldable pub rawAt : Turn → Raw
+rawAt t = record { a = flagOf 0 (gray (t .angle)); b = flagOf 1 (gray (t .angle)); z = t .z }
+
+-- The history of a shaft whose samples after a first one are these, newest first, with no call between.
+unfoldable pub watched : Turn → List Turn → List Act
+watched first [] = sampled (rawAt first) ∷ []
+watched first (t ∷ ts) = sampled (rawAt t) ∷ watched first ts
+
+-- The angle at the newest sample.
+unfoldable pub angleAt : Turn → List Turn → ℤ
+angleAt first [] = first .angle
+angleAt first (t ∷ ts) = t .angle
+
+-- How far the shaft moved, net, from the newest sample to the sample t.
+unfoldable pub moved : Turn → List Turn → Turn → ℕ
+moved first ts t = natAbs (t .angle -ℤ angleAt first ts)
+
+-- No move of the stretch `new`, which followed on `old`, was above two quarter steps.
+abbrev pub Gentle : Turn → List Turn → List Turn → Type 0
+Gentle first old [] = Unit {0}
+Gentle first old (t ∷ new) = (moved first (new ++ old) t ≤ 2) × Gentle first old new
+
+-- No sample of that stretch had E or homed.
+abbrev pub Plain : Axis → Turn → List Turn → List Turn → Type 0
+Plain x first old [] = Unit {0}
+Plain x first old (t ∷ new) =
+    (doubleAt x (rawAt t) (watched first (new ++ old)) ≡ false)
+    × (homesAt x (rawAt t) (watched first (new ++ old)) ≡ false)
+    × Plain x first old new
