@@ -33,10 +33,13 @@ line-told x B h = refl
 line-told x Z h = refl
 
 -- a priming sample's levels are taken as they are
-pub line-prime : (x : Axis) (w : Wire) (s : Raw) (h : List Act) → primedAt x h ≡ false →
-    lineAt x w (sampled s ∷ h) ≡ record { level = levelOf s w; run = 0 }
-unfolding levelAt runAt since latest streak
-line-prime x w s h q = rw q
+pub level-prime : (x : Axis) (w : Wire) (s : Raw) (h : List Act) → primedAt x h ≡ false → levelAt x w (sampled s ∷ h) ≡ levelOf s w
+unfolding levelAt since latest
+level-prime x w s h q = rw q
+
+pub run-prime : (x : Axis) (w : Wire) (s : Raw) (h : List Act) → primedAt x h ≡ false → runAt x w (sampled s ∷ h) ≡ 0
+unfolding runAt since streak
+run-prime x w s h q = rw q
 
 module _ (x : Axis) (start : Start x) where
   pub deep : 0 < x .depth

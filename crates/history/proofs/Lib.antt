@@ -4,3 +4,6 @@ pub mod LevelsLaws
 pub mod CountLaws
 pub mod TallyLaws
 pub mod PaceLaws
+pub mod PrimeLaws
+pub mod SettleLaws
+pub mod ToldLaws

@@ -3,9 +3,11 @@ use mathlib.Core.List.{List, [], _∷_}
 use Rattle.position.specs.Position.{wordOf}
 use Rattle.axis.specs.declared.row.Axis.{Axis}
 use Rattle.motion.specs.Lines.{A, B, Z}
-use Rattle.history.specs.Acts.{Act}
-use Rattle.history.specs.Levels.{primedAt, levelAt, runAt}
-use Rattle.history.specs.Entries.{entries}
+use Rattle.motion.specs.declared.lines.Raw.{Raw}
+use Rattle.motion.specs.declared.step.Stepped.{Stepped}
+use Rattle.history.specs.Acts.{Act, sampled}
+use Rattle.history.specs.Levels.{primedAt, levelAt, runAt, roseAt}
+use Rattle.history.specs.Entries.{entries, doubleAt}
 use Rattle.history.specs.Homing.{armedAt, homedAt}
 use Rattle.history.specs.Tally.{positionAt, rangeAt, doublesAt}
 use Rattle.history.specs.Pace.{directionOf, ageOf, periodOf}
@@ -31,3 +33,7 @@ told x h = record {
   period = periodOf x (entries x h);
   turn = x .turn;
 }
+
+-- The axis after the sample s after h, and its bits of the answer.
+unfoldable pub answered : Axis → Raw → List Act → Stepped
+answered x s h = record { axis = told x (sampled s ∷ h); double = doubleAt x s h; index = roseAt x s h }
