@@ -7,3 +7,5 @@ pub mod PaceLaws
 pub mod PrimeLaws
 pub mod SettleLaws
 pub mod ToldLaws
+pub mod HistoryLaws
+pub mod StartLaws

@@ -84,7 +84,8 @@ module _ (x : Axis) (start : Start x) where
     turn = x .turn;
   }
 
-  -- ---- the value of the position's tally is in the range
+  -- ---- the position stays in the range
+
   value-in-range : (h : List Act) → Legal h → inRange (placeTally x h .value .position) ≡ true
   unfolding placeTally inRange
   value-in-range [] l = position-in-range (x .word) (start .low) (start .high)
@@ -97,6 +98,9 @@ module _ (x : Axis) (start : Start x) where
   value-in-range (preset p ∷ h) l = l .0
   value-in-range (arm ∷ h) l = value-in-range h (l .1)
   value-in-range (acknowledge ∷ h) l = value-in-range h (l .1)
+
+  pub position-in : (h : List Act) → Legal h → inRange (positionAt x h) ≡ true
+  position-in h l = walk-in-range (placeTally x h .value .position) (value-in-range h l) (placeTally x h .moves)
 
   -- ---- the acts
 
