@@ -15,6 +15,7 @@ use Rattle.history.specs.Start.{Start}
 use Rattle.history.specs.Latest.{streak, latest}
 use Rattle.history.specs.Levels.{primedAt, since, levelAt, runAt}
 use Rattle.history.specs.Told.{told}
+use Rattle.history.proofs.LatestLaws.{streak-same, latest-full}
 use Rattle.history.proofs.FilterLaws.{lineOf, line-short, line-start, filter-latest}
 
 -- A filtered line after a history.
@@ -37,9 +38,22 @@ pub level-prime : (x : Axis) (w : Wire) (s : Raw) (h : List Act) → primedAt x 
 unfolding levelAt since latest
 level-prime x w s h q = rw q
 
+level-next : (x : Axis) (w : Wire) (s : Raw) (h : List Act) → primedAt x h ≡ true →
+    levelAt x w (sampled s ∷ h) ≡ latest (x .depth) (since x w h .level) (levelOf s w ∷ since x w h .raws)
+unfolding levelAt since
+level-next x w s h q = rw q
+
 pub run-prime : (x : Axis) (w : Wire) (s : Raw) (h : List Act) → primedAt x h ≡ false → runAt x w (sampled s ∷ h) ≡ 0
 unfolding runAt since streak
 run-prime x w s h q = rw q
+
+-- at depth 1 every sample's levels are
+pub level-one : (x : Axis) (w : Wire) (s : Raw) (h : List Act) → x .depth ≡ 1 → levelAt x w (sampled s ∷ h) ≡ levelOf s w
+level-one x w s h d = go (primedAt x h) refl
+  where
+    go : (b : Bool) → primedAt x h ≡ b → levelAt x w (sampled s ∷ h) ≡ levelOf s w
+    go true q = level-next x w s h q ∙ latest-full (x .depth) (since x w h .level) (levelOf s w) (since x w h .raws) (omega (arith, streak-same (levelOf s w) (since x w h .raws)))
+    go false q = level-prime x w s h q
 
 module _ (x : Axis) (start : Start x) where
   pub deep : 0 < x .depth

@@ -9,3 +9,4 @@ pub mod SettleLaws
 pub mod ToldLaws
 pub mod HistoryLaws
 pub mod StartLaws
+pub mod ShaftLaws

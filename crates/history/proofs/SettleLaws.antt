@@ -33,12 +33,12 @@ use Rattle.history.proofs.TallyLaws.{walk-in-range, counted-next, word-
 use Rattle.history.proofs.PaceLaws.{direction-next, age-next, period-next}
 
 module _
-  (x : Axis)
-  (start : Start x)
-  (s : Raw)
-  (h : List Act)
-  (value : inRange (placeTally x h .value .position) ≡ true)
-  (q : primedAt x h ≡ true) where
+    (x : Axis)
+    (start : Start x)
+    (s : Raw)
+    (h : List Act)
+    (value : inRange (placeTally x h .value .position) ≡ true)
+    (q : primedAt x h ≡ true) where
   lines : Wire → Line
   lines w = lineAt x w (sampled s ∷ h)
 

@@ -1,32 +1,15 @@
--- Where a history may start: at the axis of a sound sampled row, at the axis that a setup and a preset make, and at the axis after any history.
-use mathlib.Core.Path.{_≡_, refl, sym, _∙_, ap}
-use mathlib.Core.Bool.{Bool, true, false, cond, _&&_, and-eq-true-iff}
+-- Where a history may start anew: at the axis after any history.
+use mathlib.Core.Path.{_≡_, refl, ap}
 use mathlib.Core.List.{List, [], _∷_, _++_}
-use Prim.Native.Nat.{ℕ, _^_, _≤_, _<_}
 use native.Mathlib.Omega.{arith}
-use borrow.Author.Tests.{leb-true, ltb-true}
-use lib.Dec.{eqb, leb, ltb}
-use lib.ListN.{getD}
-use lib.IntN.{ℤ}
-use Rattle.fields.specs.Field.{fieldOf}
-use Rattle.fields.proofs.Bits.{field-below}
-use Rattle.position.specs.Position.{inRange, wordOf}
 use Rattle.position.proofs.PositionLaws.{word-low, word-high}
-use Rattle.axis.specs.Config.{sampledConfig}
-use Rattle.axis.specs.Row.{axisOf, freshAt}
-use Rattle.axis.specs.Sound.{isEmpty, isPlain, isSampler, isSampled, isCounter, statusOf}
-use Rattle.axis.specs.declared.config.Config.{Config}
 use Rattle.axis.specs.declared.row.Axis.{Axis}
-use Rattle.axis.specs.declared.row.Row.{Row}
-use Rattle.axis.specs.declared.sound.Status.{Status}
-use Rattle.axis.specs.declared.sound.Status.the-variants.{Empty, Sampled, Counter, Broken}
-use Rattle.motion.specs.Lines.{Wire, A, B, Z, placeOf, line}
 use Rattle.history.specs.Acts.{Act, act, after, Legal}
 use Rattle.history.specs.Start.{Start}
 use Rattle.history.specs.Tally.{positionAt}
 use Rattle.history.specs.Pace.{ageOf}
 use Rattle.history.specs.Told.{told}
-use Rattle.history.proofs.LevelsLaws.{lineAt, line-told, run-short}
+use Rattle.history.proofs.LevelsLaws.{line-told, run-short}
 use Rattle.history.proofs.ToldLaws.{position-in, whole-history}
 
 start-told : (x : Axis) → Start x → (h : List Act) → Legal h → Start (told x h)
@@ -43,10 +26,11 @@ start-told x start h l =
       age = omega arith;
     }
 
--- HEADLINE: a history may be cut anywhere, and its newer part starts from the axis after the older one.
+-- HEADLINE: the axis after a history may start another.
 pub start-after : (x : Axis) → Start x → (h : List Act) → Legal h → Start (after x h)
 start-after x start h l = rw (whole-history x start h l) (start-told x start h l)
 
+-- HEADLINE: a history in two parts is the newer part from the axis after the older one.
 pub after-append : (x : Axis) (new old : List Act) → after x (new ++ old) ≡ after (after x old) new
 unfolding after
 after-append x [] old = refl

@@ -57,7 +57,7 @@ doubles-next t m = go (isE m)
 
 -- ---- while RANGE is clear
 
-pub neither : (a b : Bool) → (a || b) ≡ false → (a ≡ false) × (b ≡ false)
+neither : (a b : Bool) → (a || b) ≡ false → (a ≡ false) × (b ≡ false)
 neither true b e = absurd (true≢false e)
 neither false b e = (refl, e)
 
@@ -67,6 +67,14 @@ walk-sum z [] e = sym (+ℤ-idr z)
 walk-sum z (m ∷ ms) e =
     let n = neither (heldIn z ms) (holds (walk z ms) m) e in
     rw (n .1) (ap (λ (p : ℤ). p +ℤ worth m) (walk-sum z ms (n .0)) ∙ +ℤ-assoc z (sum ms) (worth m))
+
+-- an entry that leaves RANGE clear found it clear, and counts
+pub one-clear : (t : Tally Place) (m : Move) → ranged (onward (m ∷ []) t) ≡ false →
+    (ranged t ≡ false) × (walked (onward (m ∷ []) t) ≡ walked t +ℤ worth m)
+unfolding walk heldIn
+one-clear t m e =
+    let n = neither (ranged t) (holds (walked t) m) (or-assoc (t .value .range) (heldIn (t .value .position) (t .moves)) (holds (walked t) m) ∙ e) in
+    (n .0, rw (n .1))
 
 -- HEADLINE: where RANGE is clear no entry was held, and the position is the value given plus the sum of the entries since.
 pub walked-sum : (t : Tally Place) → ranged t ≡ false → walked t ≡ t .value .position +ℤ sum (t .moves)

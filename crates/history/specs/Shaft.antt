@@ -13,9 +13,13 @@ use Rattle.history.specs.Acts.{Act, sampled}
 use Rattle.history.specs.Entries.{doubleAt}
 use Rattle.history.specs.Homing.{homesAt}
 
--- The code at an angle: forward is 0, 1, 3, 2, 0.
-unfoldable pub gray : ℤ → ℕ
-gray angle = getD (0 ∷ 1 ∷ 3 ∷ 2 ∷ []) (modZ angle 4) 0
+-- The codes of one cycle forward.
+unfoldable pub cycle : List ℕ
+cycle = 0 ∷ 1 ∷ 3 ∷ 2 ∷ []
+
+-- The code at an angle.
+unfoldable pub shown : ℤ → ℕ
+shown angle = getD cycle (modZ angle 4) 0
 
 -- A sample of the shaft: its angle, and any level of Z.
 pub record Turn : Type 0 where
@@ -24,9 +28,9 @@ pub record Turn : Type 0 where
 
 -- The raw levels of such a sample.
 unfoldable pub rawAt : Turn → Raw
-rawAt t = record { a = flagOf 0 (gray (t .angle)); b = flagOf 1 (gray (t .angle)); z = t .z }
+rawAt t = record { a = flagOf 0 (shown (t .angle)); b = flagOf 1 (shown (t .angle)); z = t .z }
 
--- The history of a shaft whose samples after a first one are these, newest first, with no call between.
+-- The history of a shaft: a first sample, which primes, and later ones, newest first, with no call between.
 unfoldable pub watched : Turn → List Turn → List Act
 watched first [] = sampled (rawAt first) ∷ []
 watched first (t ∷ ts) = sampled (rawAt t) ∷ watched first ts
