@@ -17,22 +17,22 @@ use Rattle.motion.specs.declared.decode.Move.{Move}
 use Rattle.motion.specs.declared.decode.Move.the-variants.{Still, Forward, Back, Double}
 use Rattle.history.specs.Tally.{holds}
 
--- a test of the word that is true and false as a step of d stays in the range and leaves it is the test of the range
-room : (p d : ℤ) (t : Bool) → inRange p ≡ true →
+-- A test of the word that passes where a step of d stays in the range, and fails where it leaves it, is the test of the range.
+room-test : (p d : ℤ) (t : Bool) → inRange p ≡ true →
     (t ≡ true → (minus d < wordOf p + plus d) × (wordOf p + plus d < 2 ^ 63 + minus d)) →
     (t ≡ false → (wordOf p + plus d ≤ minus d) ⊎ (2 ^ 63 + minus d ≤ wordOf p + plus d)) →
     t ≡ inRange (p +ℤ d)
-room p d true e inside outside =
+room-test p d true e inside outside =
     sym (range-yes (p +ℤ d) (⊎-elim
     (λ s. omega (arith, s, inside refl, bal-word p e, bal-add p d))
     (λ s. omega (arith, s, inside refl, bal-word p e, bal-add p d)) (sign (p +ℤ d))))
-room p d false e inside outside =
+room-test p d false e inside outside =
     sym (range-no (p +ℤ d) (⊎-elim
     (λ s. omega (arith, s, bal-word p e, bal-add p d))
     (λ s. omega (arith, s, bal-word p e, bal-add p d)) (outside refl)))
 
 module _ (p : ℤ) (e : inRange p ≡ true) where
-  -- what the count does to the word and to RANGE: a test, and the word where it is met
+  -- What the count does to the word and to RANGE: a test of room, and the word where there is room.
   record Counts (m : Move) : Type 0 where
     fits : Bool
     next : ℕ
@@ -41,17 +41,27 @@ module _ (p : ℤ) (e : inRange p ≡ true) where
     room : fits ≡ inRange (p +ℤ worth m)
     moved : fits ≡ true → next + minus (worth m) ≡ wordOf p + plus (worth m)
 
+  stands : (m : Move) → countedWord m (wordOf p) ≡ wordOf p → ((r : Bool) → countedRange m (wordOf p) r ≡ r) → worth m ≡ pos 0 → Counts m
+  stands m w f z = record {
+    fits = true;
+    next = wordOf p;
+    word = w;
+    range = f;
+    room = rw (z, +ℤ-idr) (sym e);
+    moved = λ t. rw z;
+  }
+
   counts : (m : Move) → Counts m
   unfolding countedWord countedRange worth
-  counts Still = record { fits = true; next = wordOf p; word = refl; range = λ r. refl; room = rw +ℤ-idr (sym e); moved = λ t. refl }
-  counts Double = record { fits = true; next = wordOf p; word = refl; range = λ r. refl; room = rw +ℤ-idr (sym e); moved = λ t. refl }
+  counts Still = stands Still refl (λ r. refl) refl
+  counts Double = stands Double refl (λ r. refl) refl
   counts Forward = record {
     fits = ltb (wordOf p) (2 ^ 63 - 1);
     next = wordOf p + 1;
     word = refl;
     range = λ r. refl;
     room =
-        room p (pos 1) (ltb (wordOf p) (2 ^ 63 - 1)) e
+        room-test p (pos 1) (ltb (wordOf p) (2 ^ 63 - 1)) e
         (λ t. omega (arith, ltb-true (wordOf p) (2 ^ 63 - 1) t))
         (λ t. inr (omega (arith, ltb-false (wordOf p) (2 ^ 63 - 1) t)));
     moved = λ t. omega arith;
@@ -62,7 +72,7 @@ module _ (p : ℤ) (e : inRange p ≡ true) where
     word = refl;
     range = λ r. refl;
     room =
-        room p (negsuc 0) (ltb 1 (wordOf p)) e
+        room-test p (negsuc 0) (ltb 1 (wordOf p)) e
         (λ t. omega (arith, ltb-true 1 (wordOf p) t, word-high p e))
         (λ t. inl (omega (arith, ltb-false 1 (wordOf p) t)));
     moved = λ t. omega (arith, ltb-true 1 (wordOf p) t);

@@ -1,9 +1,9 @@
 -- Demand 2 for one sampled axis: what every field of it is after a history, from any axis that a sound sampled row holds.
-use mathlib.Core.Path.{_≡_, refl, sym, _∙_, ap}
-use mathlib.Core.Bool.{Bool, false, _||_}
-use mathlib.Core.List.{List, [], _∷_}
-use Prim.Native.Nat.{ℕ, _+_, min}
-use lib.IntN.{ℤ, _+ℤ_}
+use mathlib.Core.Path.{_≡_, sym, _∙_, ap}
+use mathlib.Core.Bool.{false, _||_}
+use mathlib.Core.List.{List}
+use Prim.Native.Nat.{_+_, min}
+use lib.IntN.{_+ℤ_}
 use Rattle.position.specs.Position.{positionOf}
 use Rattle.position.proofs.PositionLaws.{position-word}
 use Rattle.axis.specs.declared.row.Axis.{Axis}

@@ -1,13 +1,12 @@
 -- The laws of the filtered lines of a history.
-use mathlib.Core.Path.{_≡_, refl, sym, _∙_, ap}
-use mathlib.Core.Bool.{Bool, true, false, not, _&&_}
+use mathlib.Core.Path.{_≡_, refl, _∙_, ap}
+use mathlib.Core.Bool.{Bool, true, false}
 use mathlib.Core.List.{List, [], _∷_}
-use Prim.Native.Nat.{ℕ, _<_}
+use Prim.Native.Nat.{_<_}
 use native.Mathlib.Omega.{arith}
-use lib.ListN.{getD, length}
 use Rattle.axis.specs.declared.row.Axis.{Axis}
 use Rattle.motion.specs.Lines.{Wire, A, B, Z, placeOf, levelOf, line}
-use Rattle.motion.specs.Filter.{filterLine, filtered}
+use Rattle.motion.specs.Filter.{filtered}
 use Rattle.motion.specs.declared.lines.Line.{Line}
 use Rattle.motion.specs.declared.lines.Raw.{Raw}
 use Rattle.history.specs.Acts.{Act, sampled}

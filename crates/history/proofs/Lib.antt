@@ -1,6 +1,7 @@
 pub mod LatestLaws
 pub mod FilterLaws
 pub mod LevelsLaws
+pub mod EntriesLaws
 pub mod CountLaws
 pub mod TallyLaws
 pub mod PaceLaws

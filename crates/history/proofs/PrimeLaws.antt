@@ -1,36 +1,22 @@
 -- The laws of a sample that primes the axis that a history tells.
-use mathlib.Core.Path.{_≡_, refl, sym, _∙_, ap}
-use mathlib.Core.Bool.{Bool, true, false, cond, not, _&&_, _||_, and-true, and-false, or-false}
+use mathlib.Core.Path.{_≡_, sym}
+use mathlib.Core.Bool.{true, false, and-true, and-false, or-false}
 use mathlib.Core.List.{List, [], _∷_}
-use Prim.Native.Nat.{ℕ, zero, suc, _+_, _-_, _^_, _<_, min}
-use native.Mathlib.Omega.{arith}
-use lib.Dec.{eqb}
-use lib.IntN.{pos}
-use lib.ListN.{getD, length}
-use Rattle.position.specs.Position.{inRange, wordOf, positionOf}
-use Rattle.position.proofs.PositionLaws.{position-in-range, word-position}
+use Rattle.position.specs.Position.{wordOf}
 use Rattle.axis.specs.declared.row.Axis.{Axis}
-use Rattle.motion.specs.Lines.{Wire, A, B, Z, placeOf, levelOf, line}
-use Rattle.motion.specs.Filter.{filtered}
-use Rattle.motion.specs.Decode.{moveTo, entry, isE}
-use Rattle.motion.specs.Index.{rises}
-use Rattle.motion.specs.Step.{primedBy, settle, outcome, stepAxis}
-use Rattle.motion.specs.declared.decode.Move.{Move}
-use Rattle.motion.specs.declared.lines.Line.{Line}
+use Rattle.motion.specs.Lines.{A, B, Z, levelOf}
+use Rattle.motion.specs.Step.{primedBy, outcome}
 use Rattle.motion.specs.declared.lines.Raw.{Raw}
-use Rattle.motion.specs.declared.step.Stepped.{Stepped}
-use Rattle.history.specs.Acts.{Act, sampled, preset, arm, acknowledge, changed, act, after, Accepted, Legal}
-use Rattle.history.specs.Start.{Start}
-use Rattle.history.specs.Levels.{primedAt, levelAt, runAt, roseAt}
-use Rattle.history.specs.Entries.{codeAt, entryAt, entries, numberOfE, doubleAt}
+use Rattle.history.specs.Acts.{Act, sampled}
+use Rattle.history.specs.Levels.{primedAt, roseAt}
+use Rattle.history.specs.Entries.{entries}
 use Rattle.history.specs.Homing.{armedAt, homesAt, homedAt}
-use Rattle.history.specs.Tally.{Tally, given, onward, Place, clear, walk, heldIn, walked, ranged, placeTally, positionAt, doubled, doublesTally}
-use Rattle.history.specs.Pace.{directionOf, gapOf, ageOf, periodOf}
-use Rattle.history.specs.Index.{countedAt, indexAt}
+use Rattle.history.specs.Tally.{walked, ranged, placeTally, doubled, doublesTally}
+use Rattle.history.specs.Pace.{directionOf, ageOf, periodOf}
+use Rattle.history.specs.Index.{indexAt}
 use Rattle.history.specs.Told.{told, answered}
-use Rattle.history.proofs.LevelsLaws.{lineAt, level-prime, run-prime, line-first, filtered-told}
-use Rattle.history.proofs.TallyLaws.{walk-in-range, counted-next, word-next, range-next, doubles-next}
-use Rattle.history.proofs.PaceLaws.{direction-next, age-next, period-next}
+use Rattle.history.proofs.LevelsLaws.{level-prime, run-prime}
+use Rattle.history.proofs.EntriesLaws.{entry-none, double-none}
 
 module _ (x : Axis) (s : Raw) (h : List Act) (q : primedAt x h ≡ false) where
   no-rise : roseAt x s h ≡ false
@@ -40,10 +26,6 @@ module _ (x : Axis) (s : Raw) (h : List Act) (q : primedAt x h ≡ false) where
   no-home : homesAt x s h ≡ false
   unfolding homesAt
   no-home = rw no-rise (and-false (armedAt x h))
-
-  no-entry : entryAt x s h ≡ []
-  unfolding entryAt
-  no-entry = rw q
 
   armed-stays : armedAt x h ≡ armedAt x (sampled s ∷ h)
   unfolding armedAt
@@ -59,15 +41,15 @@ module _ (x : Axis) (s : Raw) (h : List Act) (q : primedAt x h ≡ false) where
 
   place-stays : placeTally x h ≡ placeTally x (sampled s ∷ h)
   unfolding placeTally
-  place-stays = rw (no-home, no-entry)
+  place-stays = rw (no-home, entry-none x s h q)
 
   doubles-stay : doublesTally x h ≡ doublesTally x (sampled s ∷ h)
   unfolding doublesTally
-  doubles-stay = rw no-entry
+  doubles-stay = rw (entry-none x s h q)
 
   entries-stay : entries x h ≡ entries x (sampled s ∷ h)
   unfolding entries
-  entries-stay = rw no-entry
+  entries-stay = rw (entry-none x s h q)
 
   levels-taken : s .a ∷ s .b ∷ s .z ∷ [] ≡ told x (sampled s ∷ h) .levels
   unfolding told levelOf
@@ -98,11 +80,7 @@ module _ (x : Axis) (s : Raw) (h : List Act) (q : primedAt x h ≡ false) where
     turn = x .turn;
   }
 
-  no-double : doubleAt x s h ≡ false
-  unfolding doubleAt numberOfE
-  no-double = rw no-entry
-
   -- HEADLINE: a sample that primes sets PRIMED and the lines, changes nothing else, and sets no bit of the answer.
   pub primes : outcome false (told x h) s ≡ answered x s h
   unfolding outcome answered
-  primes = λ i. record { axis = told-primes i; double = sym no-double i; index = sym no-rise i }
+  primes = λ i. record { axis = told-primes i; double = sym (double-none x s h (entry-none x s h q)) i; index = sym no-rise i }

@@ -1,35 +1,28 @@
 -- The laws of a sample on a primed axis that a history tells.
 use mathlib.Core.Path.{_≡_, refl, sym, _∙_, ap}
-use mathlib.Core.Bool.{Bool, true, false, cond, not, _&&_, _||_, and-true, and-false, or-false}
+use mathlib.Core.Bool.{true, _&&_}
 use mathlib.Core.List.{List, [], _∷_}
-use Prim.Native.Nat.{ℕ, zero, suc, _+_, _-_, _^_, _<_, min}
-use native.Mathlib.Omega.{arith}
-use lib.Dec.{eqb}
-use lib.IntN.{pos}
-use lib.ListN.{getD, length}
-use Rattle.position.specs.Position.{inRange, wordOf, positionOf}
-use Rattle.position.proofs.PositionLaws.{position-in-range, word-position}
+use Rattle.position.specs.Position.{inRange}
 use Rattle.axis.specs.declared.row.Axis.{Axis}
-use Rattle.motion.specs.Lines.{Wire, A, B, Z, placeOf, levelOf, line}
+use Rattle.motion.specs.Lines.{Wire, A, B, Z, placeOf, line}
 use Rattle.motion.specs.Filter.{filtered}
 use Rattle.motion.specs.Decode.{moveTo, entry, isE}
 use Rattle.motion.specs.Index.{rises}
-use Rattle.motion.specs.Step.{primedBy, settle, outcome, stepAxis}
+use Rattle.motion.specs.Step.{settle, outcome}
 use Rattle.motion.specs.declared.decode.Move.{Move}
 use Rattle.motion.specs.declared.lines.Line.{Line}
 use Rattle.motion.specs.declared.lines.Raw.{Raw}
-use Rattle.motion.specs.declared.step.Stepped.{Stepped}
-use Rattle.history.specs.Acts.{Act, sampled, preset, arm, acknowledge, changed, act, after, Accepted, Legal}
+use Rattle.history.specs.Acts.{Act, sampled}
 use Rattle.history.specs.Start.{Start}
 use Rattle.history.specs.Levels.{primedAt, levelAt, runAt, roseAt}
-use Rattle.history.specs.Entries.{codeAt, entryAt, entries, numberOfE, doubleAt}
+use Rattle.history.specs.Entries.{codeAt, entryAt, entries}
 use Rattle.history.specs.Homing.{armedAt, homesAt, homedAt}
-use Rattle.history.specs.Tally.{Tally, given, onward, Place, clear, walk, heldIn, walked, ranged, placeTally, positionAt, doubled, doublesTally}
-use Rattle.history.specs.Pace.{directionOf, gapOf, ageOf, periodOf}
+use Rattle.history.specs.Tally.{placeTally, doublesTally}
 use Rattle.history.specs.Index.{countedAt, indexAt}
 use Rattle.history.specs.Told.{told, answered}
-use Rattle.history.proofs.LevelsLaws.{lineAt, level-prime, run-prime, line-first, filtered-told}
-use Rattle.history.proofs.TallyLaws.{walk-in-range, counted-next, word-next, range-next, doubles-next}
+use Rattle.history.proofs.LevelsLaws.{lineAt, filtered-told}
+use Rattle.history.proofs.EntriesLaws.{entry-primed, double-entry}
+use Rattle.history.proofs.TallyLaws.{counted-next, word-next, range-next, doubles-next}
 use Rattle.history.proofs.PaceLaws.{direction-next, age-next, period-next}
 
 module _
@@ -54,8 +47,8 @@ module _
   rise-is = rw q
 
   entry-is : entryAt x s h ≡ move ∷ []
-  unfolding entryAt move
-  entry-is = rw q
+  unfolding move
+  entry-is = entry-primed x s h q
 
   word-is : settle (told x h) lines .word ≡ told x (sampled s ∷ h) .word
   unfolding settle told placeTally homesAt
@@ -118,19 +111,11 @@ module _
   unfolding lines
   lines-are = λ i w. filtered-told x start w s h q i
 
-  double-is : isE move ≡ doubleAt x s h
-  unfolding doubleAt numberOfE
-  double-is = rw entry-is (one (isE move))
-    where
-      one : (b : Bool) → b ≡ eqb (0 + cond b 1 0) 1
-      one true = refl
-      one false = refl
-
   -- HEADLINE: a sample on a primed axis does what the history with that sample tells, and the bits of the answer are E and the index rise.
   pub settles : outcome true (told x h) s ≡ answered x s h
   unfolding outcome answered
   settles = λ i. record {
     axis = (ap (λ (n : Wire → Line). settle (told x h) n) lines-are ∙ told-settles) i;
-    double = (ap (λ (n : Wire → Line). isE (moveTo (told x h) n)) lines-are ∙ ap isE move-is ∙ double-is) i;
+    double = (ap (λ (n : Wire → Line). isE (moveTo (told x h) n)) lines-are ∙ ap isE move-is ∙ sym (double-entry x s h move entry-is)) i;
     index = (ap (λ (n : Wire → Line). rises (told x h) n) lines-are ∙ rise-is) i;
   }

@@ -1,31 +1,32 @@
 -- Depth 1, x4: E stands at exactly the samples with a move of two, and the position moves as the shaft does.
 use mathlib.Core.Path.{_≡_, refl, sym, _∙_, ap, ap₂}
-use mathlib.Core.Bool.{Bool, true, false, cond, true≢false}
+use mathlib.Core.Bool.{true, false, true≢false}
 use mathlib.Core.List.{List, [], _∷_, _++_}
-use Prim.Native.Nat.{ℕ, zero, suc, _+_, _*_, _%_, _≤_, _<_}
+use Prim.Native.Nat.{ℕ, zero, suc, _+_, _%_, _≤_, _<_}
 use native.Mathlib.Omega.{arith}
 use lib.Dec.{eqb}
 use lib.ListN.{getD}
 use lib.IntN.{ℤ, pos, negsuc, natAbs, _+ℤ_, _-ℤ_}
 use Rattle.integers.specs.Integer.{modZ}
-use Rattle.integers.proofs.Balance.{Turns, turns, mod-turns, modZ-lt, bal-add, bal-sub, eqZ}
+use Rattle.integers.proofs.Balance.{turns, mod-turns, modZ-lt, bal-add, bal-sub, eqZ}
 use Rattle.fields.specs.Field.{flagOf}
 use Rattle.position.specs.Position.{positionOf}
 use Rattle.axis.specs.Kind.{X4}
 use Rattle.axis.specs.declared.row.Axis.{Axis}
 use Rattle.motion.specs.Lines.{A, B, levelOf}
-use Rattle.motion.specs.Decode.{code, x4, x2, x1, tableOf, entryIn, entry, worth, isE}
+use Rattle.motion.specs.Decode.{code, x4, tableOf, entryIn, entry, worth, isE}
 use Rattle.motion.specs.Step.{stepAxis}
 use Rattle.motion.specs.declared.decode.Move.{Move}
 use Rattle.motion.specs.declared.decode.Move.the-variants.{Still, Forward, Back, Double}
 use Rattle.history.specs.Acts.{Act, sampled, after, Legal}
 use Rattle.history.specs.Start.{Start}
 use Rattle.history.specs.Levels.{primedAt}
-use Rattle.history.specs.Entries.{codeAt, entryAt, numberOfE, doubleAt}
+use Rattle.history.specs.Entries.{codeAt, entryAt, doubleAt}
 use Rattle.history.specs.Homing.{homesAt}
 use Rattle.history.specs.Tally.{onward, walked, ranged, placeTally, positionAt, rangeAt}
 use Rattle.history.specs.Shaft.{cycle, shown, Turn, rawAt, watched, angleAt, moved, Gentle, Plain}
 use Rattle.history.proofs.LevelsLaws.{level-one}
+use Rattle.history.proofs.EntriesLaws.{entry-primed, double-entry}
 use Rattle.history.proofs.TallyLaws.{one-clear}
 use Rattle.history.proofs.HistoryLaws.{position-walk, range-history, double-bit}
 
@@ -136,19 +137,15 @@ module _ (x : Axis) (start : Start x) (kind : x .kind ≡ X4) (depth : x .depth 
 
   entry-watched : (ts : List Turn) (t : Turn) → moved first ts t ≤ 2 →
       entryAt x (rawAt t) (watched first ts) ≡ expected (move ts t) ∷ []
-  unfolding entryAt moved move
+  unfolding moved move
   entry-watched ts t g =
-      rw (primed-watched x first ts, code-watched ts, code-at t (watched first ts))
+      entry-primed x (rawAt t) (watched first ts) (primed-watched x first ts)
+      ∙ rw (code-watched ts, code-at t (watched first ts))
       (ap (λ (m : Move). m ∷ [])
       (ap (λ (k : ℕ). entry k (shown (angleAt first ts)) (shown (t .angle))) kind ∙ entry-shown (angleAt first ts) (t .angle) g))
 
   double-watched : (ts : List Turn) (t : Turn) → moved first ts t ≤ 2 → doubleAt x (rawAt t) (watched first ts) ≡ isE (expected (move ts t))
-  unfolding doubleAt numberOfE
-  double-watched ts t g = rw (entry-watched ts t g) (one (isE (expected (move ts t))))
-    where
-      one : (b : Bool) → eqb (0 + cond b 1 0) 1 ≡ b
-      one true = refl
-      one false = refl
+  double-watched ts t g = double-entry x (rawAt t) (watched first ts) (expected (move ts t)) (entry-watched ts t g)
 
   -- HEADLINE: where no move is above two quarter steps, E stands at exactly the samples with two.
   pub double-at-two : (ts : List Turn) (t : Turn) → moved first ts t ≤ 2 →

@@ -1,36 +1,29 @@
 -- The axis after a history is the axis that the history tells.
 use mathlib.Core.Path.{_≡_, refl, sym, _∙_, ap}
-use mathlib.Core.Bool.{Bool, true, false, cond, not, _&&_, _||_, and-true, and-false, or-false}
+use mathlib.Core.Bool.{Bool, true, false, cond, or-false}
 use mathlib.Core.List.{List, [], _∷_}
-use Prim.Native.Nat.{ℕ, zero, suc, _+_, _-_, _^_, _<_, min}
+use Prim.Native.Nat.{_+_, _-_, _^_, min}
 use native.Mathlib.Omega.{arith}
-use lib.Dec.{eqb}
 use lib.IntN.{pos}
 use lib.ListN.{getD, length}
-use Rattle.position.specs.Position.{inRange, wordOf, positionOf}
+use Rattle.position.specs.Position.{inRange}
 use Rattle.position.proofs.PositionLaws.{position-in-range, word-position}
 use Rattle.axis.specs.declared.row.Axis.{Axis}
-use Rattle.motion.specs.Lines.{Wire, A, B, Z, placeOf, levelOf, line}
-use Rattle.motion.specs.Filter.{filtered}
-use Rattle.motion.specs.Decode.{moveTo, entry, isE}
-use Rattle.motion.specs.Index.{rises}
-use Rattle.motion.specs.Step.{primedBy, settle, outcome, stepAxis}
-use Rattle.motion.specs.declared.decode.Move.{Move}
-use Rattle.motion.specs.declared.lines.Line.{Line}
+use Rattle.motion.specs.Lines.{A, B, Z, placeOf, line}
+use Rattle.motion.specs.Step.{outcome, stepAxis}
 use Rattle.motion.specs.declared.lines.Raw.{Raw}
 use Rattle.motion.specs.declared.step.Stepped.{Stepped}
-use Rattle.history.specs.Acts.{Act, sampled, preset, arm, acknowledge, changed, act, after, Accepted, Legal}
+use Rattle.history.specs.Acts.{Act, sampled, preset, arm, acknowledge, changed, act, after, Legal}
 use Rattle.history.specs.Start.{Start}
-use Rattle.history.specs.Levels.{primedAt, since, levelAt, runAt, roseAt}
-use Rattle.history.specs.Entries.{codeAt, entryAt, entries, numberOfE, doubleAt}
+use Rattle.history.specs.Levels.{primedAt, since, levelAt, runAt}
+use Rattle.history.specs.Entries.{entryAt, entries, numberOfE}
 use Rattle.history.specs.Homing.{armedAt, homesAt, homedAt}
-use Rattle.history.specs.Tally.{Tally, given, onward, Place, clear, walk, heldIn, walked, ranged, placeTally, positionAt, doubled, doublesTally}
+use Rattle.history.specs.Tally.{given, onward, clear, walk, heldIn, placeTally, positionAt, doublesTally}
 use Rattle.history.specs.Pace.{directionOf, gapOf, ageOf, periodOf}
-use Rattle.history.specs.Index.{countedAt, indexAt}
+use Rattle.history.specs.Index.{indexAt}
 use Rattle.history.specs.Told.{told, answered}
-use Rattle.history.proofs.LevelsLaws.{lineAt, level-prime, run-prime, line-first, filtered-told}
-use Rattle.history.proofs.TallyLaws.{walk-in-range, counted-next, word-next, range-next, doubles-next}
-use Rattle.history.proofs.PaceLaws.{direction-next, age-next, period-next}
+use Rattle.history.proofs.LevelsLaws.{line-first}
+use Rattle.history.proofs.TallyLaws.{walk-in-range}
 use Rattle.history.proofs.PrimeLaws.{primes}
 use Rattle.history.proofs.SettleLaws.{settles}
 

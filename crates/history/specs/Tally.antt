@@ -7,7 +7,6 @@ use Rattle.position.specs.Position.{inRange, positionOf}
 use Rattle.axis.specs.declared.row.Axis.{Axis}
 use Rattle.motion.specs.Decode.{worth}
 use Rattle.motion.specs.declared.decode.Move.{Move}
-use Rattle.motion.specs.declared.lines.Raw.{Raw}
 use Rattle.history.specs.Acts.{Act, sampled, preset, arm, acknowledge}
 use Rattle.history.specs.Entries.{entryAt, numberOfE}
 use Rattle.history.specs.Homing.{homesAt}
