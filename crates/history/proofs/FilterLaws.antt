@@ -22,13 +22,13 @@ record Makes (d : ℕ) (v : Bool) (h : List Bool) (l : Line) : Type 0 where
   short : l .run < d
 
 module _ (d : ℕ) (v : Bool) where
-  -- the next sample is the filtered level
+  -- The next sample is the filtered level.
   equal : (x : Bool) (h : List Bool) → latest d v h ≡ x → 0 < d → Makes d v (x ∷ h) (record { level = x; run = 0 })
   equal x h e g =
       let same = latest-same d v x h e in
       record { level = sym same; run = rw (same, streak-other x h); short = g }
 
-  -- it is not, and makes the run as long as the depth, or does not
+  -- It is the other one, which makes the run as long as the depth, or does not.
   other : (x : Bool) (h : List Bool) (r : ℕ) → latest d v h ≡ not x → r ≡ streak x h → r < d → (full : Bool) → eqb (r + 1) d ≡ full →
       Makes d v (x ∷ h) (cond full (record { level = x; run = 0 }) (record { level = not x; run = r + 1 }))
   other x h r e f g true q =
@@ -60,7 +60,7 @@ module _ (d : ℕ) (v : Bool) where
       let m = filtered-next h (lineOf d v h) x (made g h) in
       record { level = refl; run = refl; short = rw (is (x ∷ h) (filterLine d (lineOf d v h) x) m) at (m .short) }
 
-  -- the run of such a line is below the depth
+  -- The run of such a line is below the depth.
   pub line-short : 0 < d → (h : List Bool) → lineOf d v h .run < d
   line-short g h = made g h .short
 
@@ -69,7 +69,7 @@ module _ (d : ℕ) (v : Bool) where
   level-start zero g = refl
   level-start (suc r) g = latest-pass d v (not v) (replicate r (not v)) (rw (streak-replicate (suc r) (not v)) g) ∙ level-start r (omega arith)
 
-  -- a starting run r is as good as r samples of the other level
+  -- A starting run r is as good as r samples of the other level.
   pub line-start : (r : ℕ) → r < d → lineOf d v (replicate r (not v)) ≡ record { level = v; run = r }
   line-start r g = rw (level-start r g, streak-replicate r (not v))
 

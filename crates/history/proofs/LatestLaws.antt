@@ -30,7 +30,7 @@ streak-window (suc d) v h = rw (streak-same v (replicate d v ++ h)) (omega (arit
 
 pub latest-full : (d : ℕ) (v x : Bool) (h : List Bool) → d ≤ streak x (x ∷ h) → latest d v (x ∷ h) ≡ x
 unfolding latest
-latest-full d v x h g = rw (le-leb d (streak x (x ∷ h)) g)
+latest-full d v x h g = ap (λ (b : Bool). cond b x (latest d v h)) (le-leb d (streak x (x ∷ h)) g)
 
 pub latest-same : (d : ℕ) (v x : Bool) (h : List Bool) → latest d v h ≡ x → latest d v (x ∷ h) ≡ x
 unfolding latest
@@ -42,11 +42,10 @@ latest-same d v x h e = rw e (either (leb d (streak x (x ∷ h))))
 
 -- HEADLINE: d samples of one level at the newest end give that level.
 pub latest-window : (d : ℕ) (v w : Bool) (h : List Bool) → 0 < d → latest d v (replicate d w ++ h) ≡ w
-unfolding latest
 latest-window zero v w h g = absurd (let z : ⊥ = omega arith in z)
-latest-window (suc d) v w h g = rw (le-leb (suc d) (streak w (w ∷ (replicate d w ++ h))) (streak-window (suc d) w h))
+latest-window (suc d) v w h g = latest-full (suc d) v w (replicate d w ++ h) (streak-window (suc d) w h)
 
 -- HEADLINE: a newest sample that ends no such window is passed over.
 pub latest-pass : (d : ℕ) (v x : Bool) (h : List Bool) → streak x (x ∷ h) < d → latest d v (x ∷ h) ≡ latest d v h
 unfolding latest
-latest-pass d v x h g = rw (lt-leb d (streak x (x ∷ h)) g)
+latest-pass d v x h g = ap (λ (b : Bool). cond b x (latest d v h)) (lt-leb d (streak x (x ∷ h)) g)

@@ -25,14 +25,14 @@ line-is : (x : Axis) (w : Wire) (h : List Act) → lineAt x w h ≡ lineOf (x .d
 unfolding levelAt runAt
 line-is x w h = refl
 
--- the lines of the axis that a history tells
+-- The lines of the axis that a history tells.
 pub line-told : (x : Axis) (w : Wire) (h : List Act) → line (told x h) w ≡ lineAt x w h
 unfolding line placeOf told
 line-told x A h = refl
 line-told x B h = refl
 line-told x Z h = refl
 
--- a priming sample's levels are taken as they are
+-- The levels of a priming sample are taken as they are, with no run.
 pub level-prime : (x : Axis) (w : Wire) (s : Raw) (h : List Act) → primedAt x h ≡ false → levelAt x w (sampled s ∷ h) ≡ levelOf s w
 unfolding levelAt since latest
 level-prime x w s h q = rw q
@@ -46,7 +46,7 @@ pub run-prime : (x : Axis) (w : Wire) (s : Raw) (h : List Act) → primedAt x h 
 unfolding runAt since streak
 run-prime x w s h q = rw q
 
--- at depth 1 every sample's levels are
+-- At depth 1 those of every sample are.
 pub level-one : (x : Axis) (w : Wire) (s : Raw) (h : List Act) → x .depth ≡ 1 → levelAt x w (sampled s ∷ h) ≡ levelOf s w
 level-one x w s h d = go (primedAt x h) refl
   where
@@ -61,12 +61,12 @@ module _ (x : Axis) (start : Start x) where
   pub run-short : (w : Wire) (h : List Act) → runAt x w h < x .depth
   run-short w h = rw (ap (λ (l : Line). l .run) (line-is x w h)) (line-short (x .depth) (since x w h .level) deep (since x w h .raws))
 
-  -- before any act
+  -- The lines before any act.
   pub line-first : (w : Wire) → lineAt x w [] ≡ line x w
   unfolding since
   line-first w = line-is x w [] ∙ line-start (x .depth) (line x w .level) (line x w .run) (start .short w)
 
-  -- a sample on a primed axis
+  -- HEADLINE: the filter on the axis that a history tells gives the lines that the history with that sample tells.
   pub filtered-told : (w : Wire) (s : Raw) (h : List Act) → primedAt x h ≡ true → filtered (told x h) s w ≡ lineAt x w (sampled s ∷ h)
   unfolding filtered told since
   filtered-told w s h q =

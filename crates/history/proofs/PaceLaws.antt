@@ -27,7 +27,7 @@ module _ (x : Axis) (ms : List Move) where
   age-next Back = refl
   age-next Double = refl
 
-  -- the period of a step, in either direction
+  -- The period of a step, in either direction.
   step-next : (d : ℕ) → stepPeriod d (directionOf x ms) (ageOf x ms) ≡ spanOf d x ms
   unfolding stepPeriod spanOf older ageOf
   step-next d = go (ltb (gapOf x ms + 1) (2 ^ 32 - 1)) refl

@@ -2,12 +2,13 @@
 use mathlib.Core.Path.{_≡_, refl, sym, _∙_, ap}
 use mathlib.Core.Bool.{true, _&&_}
 use mathlib.Core.List.{List, [], _∷_}
-use Rattle.position.specs.Position.{inRange}
+use Rattle.position.specs.Position.{inRange, wordOf, positionOf}
 use Rattle.axis.specs.declared.row.Axis.{Axis}
 use Rattle.motion.specs.Lines.{Wire, A, B, Z, placeOf, line}
 use Rattle.motion.specs.Filter.{filtered}
 use Rattle.motion.specs.Decode.{moveTo, entry, isE}
 use Rattle.motion.specs.Index.{rises}
+use Rattle.motion.specs.Count.{countedWord}
 use Rattle.motion.specs.Step.{settle, outcome}
 use Rattle.motion.specs.declared.decode.Move.{Move}
 use Rattle.motion.specs.declared.lines.Line.{Line}
@@ -17,7 +18,7 @@ use Rattle.history.specs.Start.{Start}
 use Rattle.history.specs.Levels.{primedAt, levelAt, runAt, roseAt}
 use Rattle.history.specs.Entries.{codeAt, entryAt, entries}
 use Rattle.history.specs.Homing.{armedAt, homesAt, homedAt}
-use Rattle.history.specs.Tally.{placeTally, doublesTally}
+use Rattle.history.specs.Tally.{onward, walked, placeTally, positionAt, doublesTally}
 use Rattle.history.specs.Index.{countedAt, indexAt}
 use Rattle.history.specs.Told.{told, answered}
 use Rattle.history.proofs.LevelsLaws.{lineAt, filtered-told}
@@ -66,9 +67,14 @@ module _
   unfolding settle told placeTally homesAt
   range-is = rw (move-is, rise-is, entry-is) (range-next (placeTally x h) value move (armedAt x h && roseAt x s h))
 
+  counted-is : positionOf (countedWord move (wordOf (positionAt x h))) ≡ countedAt x s h
+  unfolding countedAt
+  counted-is =
+      counted-next (placeTally x h) value move ∙ ap (λ (ms : List Move). walked (onward ms (placeTally x h))) (sym entry-is)
+
   index-is : settle (told x h) lines .index ≡ told x (sampled s ∷ h) .index
-  unfolding settle told indexAt countedAt
-  index-is = rw (move-is, rise-is, entry-is, counted-next (placeTally x h) value move)
+  unfolding settle told indexAt
+  index-is = rw (move-is, rise-is, counted-is)
 
   doubles-is : settle (told x h) lines .doubles ≡ told x (sampled s ∷ h) .doubles
   unfolding settle told doublesTally

@@ -1,4 +1,5 @@
--- Depth 1, x4: E stands at exactly the samples with a move of two, and the position moves as the shaft does.
+-- Depth 1, x4, from a first sample on and with no call between: E stands at exactly the samples with a move of two, and the position moves as the
+-- shaft does.
 use mathlib.Core.Path.{_≡_, refl, sym, _∙_, ap, ap₂}
 use mathlib.Core.Bool.{true, false, true≢false}
 use mathlib.Core.List.{List, [], _∷_, _++_}
@@ -24,7 +25,7 @@ use Rattle.history.specs.Levels.{primedAt}
 use Rattle.history.specs.Entries.{codeAt, entryAt, doubleAt}
 use Rattle.history.specs.Homing.{homesAt}
 use Rattle.history.specs.Tally.{onward, walked, ranged, placeTally, positionAt, rangeAt}
-use Rattle.history.specs.Shaft.{cycle, shown, Turn, rawAt, watched, angleAt, moved, Gentle, Plain}
+use Rattle.history.specs.Shaft.{cycle, shown, ShaftSample, rawAt, watched, angleAt, moved, Gentle, Plain}
 use Rattle.history.proofs.LevelsLaws.{level-one}
 use Rattle.history.proofs.EntriesLaws.{entry-primed, double-entry}
 use Rattle.history.proofs.TallyLaws.{one-clear}
@@ -32,7 +33,7 @@ use Rattle.history.proofs.HistoryLaws.{position-walk, range-history, do
 
 -- ---- angles modulo 4
 
--- what holds at 0, 1, 2 and 3 holds below 4
+-- What holds at 0, 1, 2 and 3 holds below 4.
 below-four : (P : ℕ → Type 0) → P 0 → P 1 → P 2 → P 3 → (i : ℕ) → i < 4 → P i
 below-four P p q r s zero h = p
 below-four P p q r s (suc zero) h = q
@@ -68,7 +69,7 @@ expected (pos (suc (suc n))) = Double
 expected (negsuc zero) = Back
 expected (negsuc (suc n)) = Double
 
--- the table has it, at every angle
+-- The table has it at every angle.
 entry-at : (d : ℤ) → natAbs d ≤ 2 → (i : ℕ) → i < 4 → entry X4 (getD cycle i 0) (getD cycle ((i + modZ d 4) % 4) 0) ≡ expected d
 unfolding expected cycle modZ entryIn tableOf x4
 entry-at (pos zero) g = below-four (λ i. entry X4 (getD cycle i 0) (getD cycle ((i + 0) % 4) 0) ≡ Still) refl refl refl refl
@@ -79,7 +80,7 @@ entry-at (negsuc zero) g = below-four (λ i. entry X4 (getD cycle i 0) (getD cyc
 entry-at (negsuc (suc zero)) g = below-four (λ i. entry X4 (getD cycle i 0) (getD cycle ((i + 2) % 4) 0) ≡ Double) refl refl refl refl
 entry-at (negsuc (suc (suc n))) g = absurd (let z : ⊥ = omega arith in z)
 
--- it is E for a move of two, and else worth the move
+-- It is E for a move of two, and else worth the move.
 expected-double : (d : ℤ) → natAbs d ≤ 2 → isE (expected d) ≡ eqb (natAbs d) 2
 unfolding expected isE
 expected-double (pos zero) g = refl
@@ -104,38 +105,38 @@ entry-shown a b g =
     ap (λ (n : ℕ). entry X4 (getD cycle (modZ a 4) 0) (getD cycle n 0)) (ap (λ (z : ℤ). modZ z 4) (sym (onto a b)) ∙ mod-add a (b -ℤ a))
     ∙ entry-at (b -ℤ a) g (modZ a 4) (modZ-lt a (omega arith))
 
--- the two levels of a code that is shown make that code
+-- The two levels of a code that is shown make that code.
 code-shown : (angle : ℤ) → code (flagOf 0 (shown angle)) (flagOf 1 (shown angle)) ≡ shown angle
 unfolding shown cycle
 code-shown angle = below-four (λ i. code (flagOf 0 (getD cycle i 0)) (flagOf 1 (getD cycle i 0)) ≡ getD cycle i 0) refl refl refl refl (modZ angle 4) (modZ-lt angle (omega arith))
 
-legal-watched : (first : Turn) (ts : List Turn) → Legal (watched first ts)
+legal-watched : (first : ShaftSample) (ts : List ShaftSample) → Legal (watched first ts)
 unfolding watched
 legal-watched first [] = (tt, tt)
 legal-watched first (t ∷ ts) = (tt, legal-watched first ts)
 
-primed-watched : (x : Axis) (first : Turn) (ts : List Turn) → primedAt x (watched first ts) ≡ true
+primed-watched : (x : Axis) (first : ShaftSample) (ts : List ShaftSample) → primedAt x (watched first ts) ≡ true
 unfolding watched primedAt
 primed-watched x first [] = refl
 primed-watched x first (t ∷ ts) = refl
 
 -- ---- one sample
 
-module _ (x : Axis) (start : Start x) (kind : x .kind ≡ X4) (depth : x .depth ≡ 1) (first : Turn) where
-  code-at : (t : Turn) (h : List Act) → codeAt x (sampled (rawAt t) ∷ h) ≡ shown (t .angle)
+module _ (x : Axis) (start : Start x) (kind : x .kind ≡ X4) (depth : x .depth ≡ 1) (first : ShaftSample) where
+  code-at : (t : ShaftSample) (h : List Act) → codeAt x (sampled (rawAt t) ∷ h) ≡ shown (t .angle)
   unfolding codeAt rawAt levelOf
   code-at t h = ap₂ code (level-one x A (rawAt t) h depth) (level-one x B (rawAt t) h depth) ∙ code-shown (t .angle)
 
-  code-watched : (ts : List Turn) → codeAt x (watched first ts) ≡ shown (angleAt first ts)
+  code-watched : (ts : List ShaftSample) → codeAt x (watched first ts) ≡ shown (angleAt first ts)
   unfolding watched angleAt
   code-watched [] = code-at first []
   code-watched (t ∷ ts) = code-at t (watched first ts)
 
   -- The net move from the newest sample to the sample t.
-  move : List Turn → Turn → ℤ
+  move : List ShaftSample → ShaftSample → ℤ
   move ts t = t .angle -ℤ angleAt first ts
 
-  entry-watched : (ts : List Turn) (t : Turn) → moved first ts t ≤ 2 →
+  entry-watched : (ts : List ShaftSample) (t : ShaftSample) → moved first ts t ≤ 2 →
       entryAt x (rawAt t) (watched first ts) ≡ expected (move ts t) ∷ []
   unfolding moved move
   entry-watched ts t g =
@@ -144,11 +145,11 @@ module _ (x : Axis) (start : Start x) (kind : x .kind ≡ X4) (depth : x .depth 
       (ap (λ (m : Move). m ∷ [])
       (ap (λ (k : ℕ). entry k (shown (angleAt first ts)) (shown (t .angle))) kind ∙ entry-shown (angleAt first ts) (t .angle) g))
 
-  double-watched : (ts : List Turn) (t : Turn) → moved first ts t ≤ 2 → doubleAt x (rawAt t) (watched first ts) ≡ isE (expected (move ts t))
+  double-watched : (ts : List ShaftSample) (t : ShaftSample) → moved first ts t ≤ 2 → doubleAt x (rawAt t) (watched first ts) ≡ isE (expected (move ts t))
   double-watched ts t g = double-entry x (rawAt t) (watched first ts) (expected (move ts t)) (entry-watched ts t g)
 
   -- HEADLINE: where no move is above two quarter steps, E stands at exactly the samples with two.
-  pub double-at-two : (ts : List Turn) (t : Turn) → moved first ts t ≤ 2 →
+  pub double-at-two : (ts : List ShaftSample) (t : ShaftSample) → moved first ts t ≤ 2 →
       stepAxis (after x (watched first ts)) (rawAt t) .double ≡ eqb (moved first ts t) 2
   unfolding moved move
   double-at-two ts t g =
@@ -158,12 +159,12 @@ module _ (x : Axis) (start : Start x) (kind : x .kind ≡ X4) (depth : x .depth 
 
   -- ---- a stretch of samples
 
-  tally-next : (ts : List Turn) (t : Turn) → moved first ts t ≤ 2 → homesAt x (rawAt t) (watched first ts) ≡ false →
+  tally-next : (ts : List ShaftSample) (t : ShaftSample) → moved first ts t ≤ 2 → homesAt x (rawAt t) (watched first ts) ≡ false →
       placeTally x (watched first (t ∷ ts)) ≡ onward (expected (move ts t) ∷ []) (placeTally x (watched first ts))
   unfolding placeTally watched
   tally-next ts t g n = rw (n, entry-watched ts t g)
 
-  stretch : (old new : List Turn) → Gentle first old new → Plain x first old new → rangeAt x (watched first (new ++ old)) ≡ false →
+  stretch : (old new : List ShaftSample) → Gentle first old new → Plain x first old new → rangeAt x (watched first (new ++ old)) ≡ false →
       positionAt x (watched first (new ++ old))
       ≡ positionAt x (watched first old) +ℤ (angleAt first (new ++ old) -ℤ angleAt first old)
   unfolding angleAt move
@@ -180,7 +181,7 @@ module _ (x : Axis) (start : Start x) (kind : x .kind ≡ X4) (depth : x .depth 
 
   -- HEADLINE: over any stretch of samples without E or homing, also after an earlier E, the position moves exactly as the shaft does, where RANGE is
   -- clear.
-  pub moves-as-shaft : (old new : List Turn) → Gentle first old new → Plain x first old new → after x (watched first (new ++ old)) .range ≡ false →
+  pub moves-as-shaft : (old new : List ShaftSample) → Gentle first old new → Plain x first old new → after x (watched first (new ++ old)) .range ≡ false →
       positionOf (after x (watched first (new ++ old)) .word)
       ≡ positionOf (after x (watched first old) .word) +ℤ (angleAt first (new ++ old) -ℤ angleAt first old)
   moves-as-shaft old new g p r =

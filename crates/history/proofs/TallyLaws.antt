@@ -25,12 +25,12 @@ module _ (t : Tally Place) (e : inRange (t .value .position) ≡ true) (m : Move
   now-in-range : inRange (walked t) ≡ true
   now-in-range = walk-in-range (t .value .position) e (t .moves)
 
-  -- the position after one entry more
+  -- The position after one entry more.
   pub counted-next : positionOf (countedWord m (wordOf (walked t))) ≡ walked (onward (m ∷ []) t)
   unfolding walk
   counted-next = rw (count-word (walked t) now-in-range m) (position-word _ (stepped-in-range (walked t) now-in-range m))
 
-  -- the word and RANGE after one entry more, and after a homing
+  -- The word and RANGE after one entry more, or after a homing.
   pub word-next : (homes : Bool) →
       cond homes (2 ^ 62) (countedWord m (wordOf (walked t))) ≡ wordOf (walked (cond homes (given (clear (pos 0))) (onward (m ∷ []) t)))
   unfolding walk wordOf
@@ -46,7 +46,7 @@ module _ (t : Tally Place) (e : inRange (t .value .position) ≡ true) (m : Move
       ∙ count-range (walked t) now-in-range m (ranged t)
       ∙ or-assoc (t .value .range) (heldIn (t .value .position) (t .moves)) (holds (walked t) m)
 
--- the doubles after one entry more
+-- The doubles after one entry more.
 pub doubles-next : (t : Tally ℕ) (m : Move) → countedDoubles m (doubled t) ≡ doubled (onward (m ∷ []) t)
 unfolding countedDoubles numberOfE
 doubles-next t m = go (isE m)
@@ -68,7 +68,7 @@ walk-sum z (m ∷ ms) e =
     let n = neither (heldIn z ms) (holds (walk z ms) m) e in
     rw (n .1) (ap (λ (p : ℤ). p +ℤ worth m) (walk-sum z ms (n .0)) ∙ +ℤ-assoc z (sum ms) (worth m))
 
--- an entry that leaves RANGE clear found it clear, and counts
+-- An entry that leaves RANGE clear found it clear, and counts.
 pub one-clear : (t : Tally Place) (m : Move) → ranged (onward (m ∷ []) t) ≡ false →
     (ranged t ≡ false) × (walked (onward (m ∷ []) t) ≡ walked t +ℤ worth m)
 unfolding walk heldIn

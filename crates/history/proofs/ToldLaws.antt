@@ -27,7 +27,7 @@ use Rattle.history.proofs.TallyLaws.{walk-in-range}
 use Rattle.history.proofs.PrimeLaws.{primes}
 use Rattle.history.proofs.SettleLaws.{settles}
 
--- a list of three is its three elements
+-- A list of three is its three elements.
 three-of : {T : Type 0} (l : List T) (d : T) → length l ≡ 3 → getD l 0 d ∷ getD l 1 d ∷ getD l 2 d ∷ [] ≡ l
 three-of (a ∷ b ∷ c ∷ []) d e = refl
 three-of [] d e = absurd (let z : ⊥ = omega arith in z)

@@ -1,5 +1,5 @@
--- What happens to a sampled axis from one setup to the next: document 01, "A port sample" and "Calls that name one axis". A history is a list of
--- acts, newest first.
+-- What happens to a sampled axis of one configuration: document 01, "A port sample" and "Calls that name one axis". A history is a list of acts,
+-- newest first.
 use Prim.Native.Nat.{ℕ}
 use mathlib.Core.Path.{_≡_}
 use mathlib.Core.Bool.{Bool, true, false}
@@ -10,7 +10,7 @@ use Rattle.axis.specs.declared.row.Axis.{Axis}
 use Rattle.motion.specs.Step.{stepAxis}
 use Rattle.motion.specs.declared.lines.Raw.{Raw}
 
--- A sample, or an accepted call that leaves the configuration alone.
+-- A sample, or a call that leaves the configuration alone.
 pub data Act : Type 0 where
   sampled : Raw → Act
   preset : ℤ → Act

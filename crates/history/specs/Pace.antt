@@ -7,7 +7,7 @@ use Rattle.axis.specs.declared.row.Axis.{Axis}
 use Rattle.motion.specs.declared.decode.Move.{Move}
 use Rattle.motion.specs.declared.decode.Move.the-variants.{Still, Forward, Back, Double}
 
--- Direction: 1, 2 or 0 as the latest entry off zero is forward, back or E.
+-- Direction: 1, 2 or 0 as the latest entry off zero is +, - or E; the starting axis's if there was none.
 unfoldable pub directionOf : Axis → List Move → ℕ
 directionOf x [] = x .direction
 directionOf x (Still ∷ ms) = directionOf x ms
@@ -15,7 +15,7 @@ directionOf x (Forward ∷ ms) = 1
 directionOf x (Back ∷ ms) = 2
 directionOf x (Double ∷ ms) = 0
 
--- How many samples ago the latest entry off zero was.
+-- The gap: how many samples came after the latest entry off zero, or after the starting axis's age.
 unfoldable pub gapOf : Axis → List Move → ℕ
 gapOf x [] = x .age
 gapOf x (Still ∷ ms) = gapOf x ms + 1
@@ -23,7 +23,7 @@ gapOf x (Forward ∷ ms) = 0
 gapOf x (Back ∷ ms) = 0
 gapOf x (Double ∷ ms) = 0
 
--- Age: that gap, at most 2 ^ 32 - 1.
+-- Age: the gap, at most 2 ^ 32 - 1.
 unfoldable pub ageOf : Axis → List Move → ℕ
 ageOf x ms = min (2 ^ 32 - 1) (gapOf x ms)
 
@@ -32,7 +32,7 @@ ageOf x ms = min (2 ^ 32 - 1) (gapOf x ms)
 unfoldable pub spanOf : ℕ → Axis → List Move → ℕ
 spanOf d x ms = cond (ltb (gapOf x ms + 1) (2 ^ 32 - 1) && eqb (directionOf x ms) d) (gapOf x ms + 1) 0
 
--- Period: that of the latest entry off zero, 0 for E.
+-- Period: that of the latest entry off zero, 0 for E; the starting axis's if there was none.
 unfoldable pub periodOf : Axis → List Move → ℕ
 periodOf x [] = x .period
 periodOf x (Still ∷ ms) = periodOf x ms

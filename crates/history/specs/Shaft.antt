@@ -21,36 +21,36 @@ cycle = 0 ∷ 1 ∷ 3 ∷ 2 ∷ []
 unfoldable pub shown : ℤ → ℕ
 shown angle = getD cycle (modZ angle 4) 0
 
--- A sample of the shaft: its angle, and any level of Z.
-pub record Turn : Type 0 where
+-- A sample of the shaft: the angle, and any level of Z.
+pub record ShaftSample : Type 0 where
   pub angle : ℤ
   pub z : Bool
 
--- The raw levels of such a sample.
-unfoldable pub rawAt : Turn → Raw
+-- Its raw levels.
+unfoldable pub rawAt : ShaftSample → Raw
 rawAt t = record { a = flagOf 0 (shown (t .angle)); b = flagOf 1 (shown (t .angle)); z = t .z }
 
--- The history of a shaft: a first sample, which primes, and later ones, newest first, with no call between.
-unfoldable pub watched : Turn → List Turn → List Act
+-- The history of a shaft with no call between: a first sample, as the one that primes is, and later ones, newest first.
+unfoldable pub watched : ShaftSample → List ShaftSample → List Act
 watched first [] = sampled (rawAt first) ∷ []
 watched first (t ∷ ts) = sampled (rawAt t) ∷ watched first ts
 
 -- The angle at the newest sample.
-unfoldable pub angleAt : Turn → List Turn → ℤ
+unfoldable pub angleAt : ShaftSample → List ShaftSample → ℤ
 angleAt first [] = first .angle
 angleAt first (t ∷ ts) = t .angle
 
 -- How far the shaft moved, net, from the newest sample to the sample t.
-unfoldable pub moved : Turn → List Turn → Turn → ℕ
+unfoldable pub moved : ShaftSample → List ShaftSample → ShaftSample → ℕ
 moved first ts t = natAbs (t .angle -ℤ angleAt first ts)
 
 -- No move of the stretch `new`, which followed on `old`, was above two quarter steps.
-abbrev pub Gentle : Turn → List Turn → List Turn → Type 0
+abbrev pub Gentle : ShaftSample → List ShaftSample → List ShaftSample → Type 0
 Gentle first old [] = Unit {0}
 Gentle first old (t ∷ new) = (moved first (new ++ old) t ≤ 2) × Gentle first old new
 
 -- No sample of that stretch had E or homed.
-abbrev pub Plain : Axis → Turn → List Turn → List Turn → Type 0
+abbrev pub Plain : Axis → ShaftSample → List ShaftSample → List ShaftSample → Type 0
 Plain x first old [] = Unit {0}
 Plain x first old (t ∷ new) =
     (doubleAt x (rawAt t) (watched first (new ++ old)) ≡ false)

@@ -5,7 +5,7 @@ use lib.ListN.{length}
 use Rattle.axis.specs.declared.row.Axis.{Axis}
 use Rattle.motion.specs.Lines.{Wire, line}
 
--- What the theorems ask of the starting axis; the axis of every sound sampled row has it.
+-- What a history asks of its starting axis, which is no more than a sound sampled row gives.
 pub record Start (x : Axis) : Type 0 where
   pub low : 0 < x .word
   pub high : x .word < 2 ^ 63
