@@ -22,7 +22,7 @@ pub record Since : Type 0 where
   pub level : Bool
   pub raws : List Bool
 
--- A run of the starting axis counts as so many earlier samples of the other level.
+-- What a history says of a line; a run of the starting axis counts as so many earlier samples of the other level.
 unfoldable pub since : Axis → Wire → List Act → Since
 since x w [] = record { level = line x w .level; raws = replicate (line x w .run) (not (line x w .level)) }
 since x w (sampled s ∷ h) =

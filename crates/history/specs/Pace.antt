@@ -15,7 +15,7 @@ directionOf x (Forward ∷ ms) = 1
 directionOf x (Back ∷ ms) = 2
 directionOf x (Double ∷ ms) = 0
 
--- The gap: how many samples came after the latest entry off zero, or after the starting axis's age.
+-- The gap: the samples since the latest entry off zero, counted on from the starting axis's age if there was none.
 unfoldable pub gapOf : Axis → List Move → ℕ
 gapOf x [] = x .age
 gapOf x (Still ∷ ms) = gapOf x ms + 1

@@ -60,11 +60,11 @@ unfoldable pub heldIn : ℤ → List Move → Bool
 heldIn z [] = false
 heldIn z (m ∷ ms) = heldIn z ms || holds (walk z ms) m
 
--- The position of a tally.
+-- The position of a tally: from the value given, by the entries.
 abbrev pub walked : Tally Place → ℤ
 walked t = walk (t .value .position) (t .moves)
 
--- Position: the last value given, and the entries since.
+-- The position after a history.
 abbrev pub positionAt : Axis → List Act → ℤ
 positionAt x h = walked (placeTally x h)
 
@@ -72,7 +72,7 @@ positionAt x h = walked (placeTally x h)
 abbrev pub ranged : Tally Place → Bool
 ranged t = t .value .range || heldIn (t .value .position) (t .moves)
 
--- RANGE.
+-- RANGE after a history.
 abbrev pub rangeAt : Axis → List Act → Bool
 rangeAt x h = ranged (placeTally x h)
 
@@ -88,6 +88,6 @@ doublesTally x (acknowledge ∷ h) = given 0
 abbrev pub doubled : Tally ℕ → ℕ
 doubled t = min 65535 (t .value + numberOfE (t .moves))
 
--- Doubles.
+-- Doubles after a history.
 abbrev pub doublesAt : Axis → List Act → ℕ
 doublesAt x h = doubled (doublesTally x h)
