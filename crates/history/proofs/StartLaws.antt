@@ -1,9 +1,16 @@
--- Where a history may start anew: at the axis after any history.
+-- Where a history may start: at the axis that a setup or a restore makes, and at the axis after any history.
 use mathlib.Core.Path.{_≡_, refl, ap}
+use mathlib.Core.Bool.{true}
 use mathlib.Core.List.{List, [], _∷_, _++_}
+use Prim.Native.Nat.{_<_}
 use native.Mathlib.Omega.{arith}
+use lib.IntN.{ℤ}
+use Rattle.position.specs.Position.{inRange, wordOf}
 use Rattle.position.proofs.PositionLaws.{word-low, word-high}
+use Rattle.axis.specs.Row.{freshAt}
+use Rattle.axis.specs.declared.config.Config.{Config}
 use Rattle.axis.specs.declared.row.Axis.{Axis}
+use Rattle.motion.specs.Lines.{Wire, A, B, Z, placeOf, line}
 use Rattle.history.specs.Acts.{Act, act, after, Legal}
 use Rattle.history.specs.Start.{Start}
 use Rattle.history.specs.Tally.{positionAt}
@@ -11,6 +18,24 @@ use Rattle.history.specs.Pace.{ageOf}
 use Rattle.history.specs.Told.{told}
 use Rattle.history.proofs.LevelsLaws.{line-told, run-short}
 use Rattle.history.proofs.ToldLaws.{position-in, whole-history}
+
+-- HEADLINE: the axis that a setup or a restore makes may start a history.
+pub start-fresh : (c : Config) (p : ℤ) → 0 < c .depth → inRange p ≡ true → Start (freshAt c (wordOf p))
+unfolding line placeOf
+start-fresh c p deep e = record {
+  low = word-low p e;
+  high = word-high p e;
+  short = short;
+  levels = refl;
+  runs = refl;
+  doubles = omega arith;
+  age = omega arith;
+}
+  where
+    short : (w : Wire) → line (freshAt c (wordOf p)) w .run < c .depth
+    short A = deep
+    short B = deep
+    short Z = deep
 
 start-told : (x : Axis) → Start x → (h : List Act) → Legal h → Start (told x h)
 unfolding told ageOf
