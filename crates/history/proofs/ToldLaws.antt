@@ -13,7 +13,8 @@ use Rattle.motion.specs.Lines.{A, B, Z, placeOf, line}
 use Rattle.motion.specs.Step.{outcome, stepAxis}
 use Rattle.motion.specs.declared.lines.Raw.{Raw}
 use Rattle.motion.specs.declared.step.Stepped.{Stepped}
-use Rattle.history.specs.Acts.{Act, sampled, preset, arm, acknowledge, changed, act, after, Legal}
+use Rattle.history.specs.Acts.{Act, sampled, preset, arm, acknowledge, act, after, Legal}
+use Rattle.calls.specs.Change.{changed}
 use Rattle.history.specs.Start.{Start}
 use Rattle.history.specs.Levels.{primedAt, since, levelAt, runAt}
 use Rattle.history.specs.Entries.{entryAt, entries, numberOfE}
