@@ -9,3 +9,5 @@ pub mod Pace
 pub mod Index
 pub mod Told
 pub mod Shaft
+pub mod Event
+pub mod Phase
