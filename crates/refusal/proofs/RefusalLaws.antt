@@ -2,6 +2,7 @@
 use mathlib.Core.Path.{_≡_, refl, sym, ap, _∙_}
 use mathlib.Core.List.{List, [], _∷_}
 use Prim.Native.Nat.{ℕ, suc}
+use native.Mathlib.Omega.{arith}
 use lib.ListN.{getD}
 use Rattle.refusal.specs.declared.Refusal.{Refusal}
 use Rattle.refusal.specs.declared.Refusal.the-variants.{Length, Axis, Broken, Empty, Kind, Value, Half, Range, NoPeriod, Room, Layout, Record}
@@ -29,3 +30,8 @@ again Record = refl
 -- HEADLINE: two reasons with one number and one found value are one reason.
 pub told-apart : (r s : Refusal) → numberOf r ≡ numberOf s → foundIn r ≡ foundIn s → r ≡ s
 told-apart r s n f = sym (again r) ∙ rw (n, f) (again s)
+
+-- HEADLINE: no reason has the number 0, which says that nothing was refused.
+pub above-zero : (r : Refusal) → numberOf r ≡ 0 → ⊥
+unfolding reason
+above-zero r z = let e : Length ≡ r = rw z at (again r) in omega (arith, ap numberOf e)
