@@ -5,17 +5,16 @@ ghost use Rattle.table.specs.Call.{Commits};
 use crate::rows::write_row;
 use calls::answer::Changed;
 use calls::answer::Done;
+use calls::answer::answered;
 
 // The row that the call made takes the named one's place, or every word stays.
 pub(crate) fn commit(table: &mut [u64], axis: u64, change: Changed) -> Done
     requires { ⌜ axis * 4 + 4 ≤ length (now table) ⌝ }
     ensures { λ r. ⌜ Commits change (now (table .entry)) axis (now (table .exit)) r ⌝ }
 {
-    match change {
-        Changed::Kept(e) => Done::Refused(e),
-        Changed::To(row) => {
-            write_row(table, axis as usize, row);
-            Done::Yes
-        }
-    }
+    let Changed::To(row) = change else {
+        return answered(change);
+    };
+    write_row(table, axis as usize, row);
+    answered(change)
 }
