@@ -84,6 +84,11 @@ fed-one x b t h e =
     let q : take (LIMIT - x .samples) (b ∷ []) ≡ b ∷ [] = take-all (LIMIT - x .samples) (b ∷ []) (omega arith) in
     rw (q, e)
 
+-- Below the limit every read gets on.
+pub fed-grows : (x : Trace) (bs : List ℕ) → x .samples < LIMIT → 0 < length bs → x .samples < fedWith x bs .samples
+unfolding fedWith
+fed-grows x bs h some = omega (arith, length-take (LIMIT - x .samples) bs)
+
 -- ---- from a table's words to its row
 
 -- A sample of a table of one axis steps its row by the low four bits.
