@@ -1,12 +1,8 @@
 -- The laws of the trace program's input: document 01, "Trace program".
-use Prim.Native.Nat.{ℕ, _-_, _≤_, _<_, min}
+use Prim.Native.Nat.{ℕ, _-_, _<_}
 use native.Mathlib.Omega.{arith}
 use mathlib.Core.Path.{_≡_, sym, ap, _∙_}
-use mathlib.Core.List.{List, [], _++_}
-use lib.IntN.{ℤ, pos, negsuc}
-use lib.ListN.{length}
-use Rattle.io.specs.Counts.{clamped}
-use Rattle.libc.specs.Io.{Moved}
+use mathlib.Core.List.{[], _++_}
 use Rattle.tracing.specs.Trace.{LIMIT, fedWith}
 use Rattle.tracing.specs.declared.trace.Trace.{Trace}
 use Rattle.tracing.proofs.TraceLaws.{cut, fed-none, fed-grows}

@@ -1,5 +1,5 @@
 -- The laws of a report's text: document 01, "Trace program".
-use Prim.Native.Nat.{ℕ, zero, suc, _+_, _-_, _/_, _%_, _^_, _≤_, _<_}
+use Prim.Native.Nat.{ℕ, suc, _+_, _-_, _/_, _%_, _^_, _≤_, _<_}
 use native.Mathlib.Numerals.{add-one}
 use native.Mathlib.Omega.{arith}
 use mathlib.Core.Path.{_≡_, refl, sym, ap, subst, _∙_}
@@ -13,11 +13,11 @@ use lib.Seq.{sets, take-suc, length-take-le}
 use borrow.Author.Tests.{ltb-true}
 use mir.Syntax.{w64}
 use mir.Val.{SFits, ofZ}
-use Rattle.integers.specs.Integer.{plus, minus}
+use Rattle.integers.specs.Integer.{plus}
 use Rattle.integers.proofs.Balance.{abs-is, ltZ-true, ltZ-false}
 use Rattle.integers.proofs.Machine.{i64-fits, no-pos, abs-nonneg, bits-neg, bits-pos}
 use Rattle.record.proofs.StoreLaws.{sets-then}
-use Rattle.tracing.specs.Text.{FEED, MINUS, ZERO, SAMPLES, POSITION, DOUBLES, decimal, numeral, lineOf, textOf, Puts, Writes}
+use Rattle.tracing.specs.Text.{FEED, MINUS, ZERO, SAMPLES, POSITION, DOUBLES, decimal, numeral, lineOf, textOf, Puts}
 use Rattle.tracing.specs.declared.report.Report.{Report}
 use Rattle.tracing.proofs.DecimalLaws.{decimal-some, decimal-one, decimal-more, decimal-length}
 

@@ -1,16 +1,15 @@
 -- The laws of a trace: document 01, "Trace program".
-use Prim.Native.Nat.{ℕ, zero, suc, _+_, _-_, _*_, _/_, _%_, _^_, _≤_, _<_, min}
+use Prim.Native.Nat.{ℕ, zero, suc, _+_, _-_, _/_, _%_, _^_, _≤_, _<_, min}
 use native.Mathlib.Nat.{zero-add, add-zero, add-assoc}
 use native.Mathlib.Numerals.{add-one}
 use native.Mathlib.Omega.{arith}
 use mathlib.Core.Path.{_≡_, refl, sym, ap, _∙_}
 use mathlib.Core.List.{List, [], _∷_, _++_, map}
 use lib.ListN.{length, take, getD, length-append, length-take}
-use lib.Seq.{take-nil, take-suc, take-all, take-append-le}
+use lib.Seq.{take-nil, take-suc, take-all}
 use lib.Dec.{lit<}
 use lib.IntN.{pos}
 use Rattle.position.specs.Position.{positionOf}
-use Rattle.fields.specs.Field.{fieldOf}
 use Rattle.axis.specs.Config.{goodConfig}
 use Rattle.axis.specs.Kind.{X4}
 use Rattle.axis.specs.Row.{axisOf, rowOf, fresh}
@@ -20,19 +19,18 @@ use Rattle.axis.specs.declared.sound.Status.the-variants.{Sampled}
 use Rattle.axis.proofs.SoundLaws.{setup-sound}
 use Rattle.motion.specs.Step.{stepRow}
 use Rattle.motion.proofs.RowLaws.{status-after}
-use Rattle.calls.specs.Answer.{viewOf, viewValue}
+use Rattle.calls.specs.Answer.{viewOf}
 use Rattle.calls.specs.Calls.{configOf, setupRow, viewRow}
 use Rattle.calls.specs.declared.answer.Viewed.the-variants.{Shows}
 use Rattle.table.specs.Table.{axesIn, rowAt, setRow}
 use Rattle.table.specs.Located.{located}
-use Rattle.table.specs.Port.{nibble, stepAt, sampledTo, sampledTable}
-use Rattle.table.specs.Call.{ruled, tableAfter, viewedIn}
-use Rattle.table.proofs.TableLaws.{length-setRow, row-same}
+use Rattle.table.specs.Port.{nibble, sampledTo, sampledTable}
+use Rattle.table.specs.Call.{tableAfter, viewedIn}
+use Rattle.table.proofs.TableLaws.{row-same}
 use Rattle.table.proofs.LocatedLaws.{found-at}
 use Rattle.table.proofs.PortLaws.{length-sampledTo}
-use Rattle.tracing.specs.Trace.{LIMIT, noAxis, started, tracedBy, lookedAt, fedWith, reported, reportOf, lowFour, steppedBy, inputRow, inputReport}
+use Rattle.tracing.specs.Trace.{LIMIT, started, tracedBy, lookedAt, fedWith, reportOf, lowFour, steppedBy, inputRow, inputReport}
 use Rattle.tracing.specs.declared.trace.Trace.{Trace}
-use Rattle.tracing.specs.declared.report.Report.{Report}
 
 -- ---- bytes in two parts
 
@@ -55,27 +53,14 @@ unfolding tracedBy
 traced-append t [] b = refl
 traced-append t (x ∷ a) b = traced-append (sampledTable t x) a b
 
--- HEADLINE: bytes fed in two parts are fed as one, so how an input is cut into reads plays no part.
-pub cut : (x : Trace) (a b : List ℕ) → fedWith (fedWith x a) b ≡ fedWith x (a ++ b)
-unfolding fedWith
-cut x a b =
-    rw (looked-append (x .samples) a b, traced-append, length-append, add-assoc)
-
--- HEADLINE: once the limit is reached, no byte changes anything.
-pub past-limit : (x : Trace) (bs : List ℕ) → LIMIT ≤ x .samples → fedWith x bs ≡ x
-unfolding fedWith tracedBy
-past-limit x bs h =
-    let e : LIMIT - x .samples ≡ 0 = omega arith in
-    rw (e, add-zero)
+-- The first bytes, and one more.
+pub take-next : (bs : List ℕ) (i : ℕ) → i < length bs → take i bs ++ (getD bs i 0 ∷ []) ≡ take (i + 1) bs
+take-next bs i h = rw (add-one, take-suc bs i 0)
 
 -- Nothing fed is nothing changed.
 pub fed-none : (x : Trace) → fedWith x [] ≡ x
 unfolding fedWith tracedBy
 fed-none x = rw (take-nil, add-zero)
-
--- One byte more.
-pub fed-next : (x : Trace) (bs : List ℕ) (i : ℕ) → i < length bs → fedWith (fedWith x (take i bs)) (getD bs i 0 ∷ []) ≡ fedWith x (take (i + 1) bs)
-fed-next x bs i h = cut x (take i bs) (getD bs i 0 ∷ []) ∙ rw (add-one, take-suc bs i 0)
 
 -- A byte below the limit is one port sample.
 pub fed-one : (x : Trace) (b : ℕ) (t : List ℕ) → x .samples < LIMIT → t ≡ sampledTable (x .words) b → record { words = t; samples = x .samples + 1 } ≡ fedWith x (b ∷ [])
@@ -143,6 +128,20 @@ view-one t r l e s = let h : 0 < axesIn (length t) = rw l (lit< tt) in rw (sym (
 input-sampled : (bs : List ℕ) → statusOf (inputRow bs) ≡ Sampled
 unfolding goodConfig
 input-sampled bs = status-stepped _ (map lowFour (take LIMIT bs)) ∙ setup-sound (configOf X4 1 0 0) (2 ^ 62) (lit< tt) (lit< tt) refl
+
+-- ---- the promises
+
+-- HEADLINE: bytes fed in two parts are fed as one, so how an input is cut into reads plays no part.
+pub cut : (x : Trace) (a b : List ℕ) → fedWith (fedWith x a) b ≡ fedWith x (a ++ b)
+unfolding fedWith
+cut x a b = rw (looked-append (x .samples) a b, traced-append, length-append, add-assoc)
+
+-- HEADLINE: once the limit is reached, no byte changes anything.
+pub past-limit : (x : Trace) (bs : List ℕ) → LIMIT ≤ x .samples → fedWith x bs ≡ x
+unfolding fedWith tracedBy
+past-limit x bs h =
+    let e : LIMIT - x .samples ≡ 0 = omega arith in
+    rw (e, add-zero)
 
 -- HEADLINE: after a whole input the samples are its bytes, up to the limit.
 pub samples-rule : (bs : List ℕ) → fedWith started bs .samples ≡ min LIMIT (length bs)

@@ -9,17 +9,19 @@ use lib.ListN.{length}
 use lib.Seq.{sets}
 use Rattle.tracing.specs.declared.report.Report.{Report}
 
--- The bytes of a line feed, of a - and of the digit 0, behind which the other digits stand.
+-- The byte of a line feed.
 abbrev pub FEED : ℕ
 FEED = 10
 
+-- The byte of a -.
 abbrev pub MINUS : ℕ
 MINUS = 45
 
+-- The byte of the digit 0, behind which the other digits stand in order.
 abbrev pub ZERO : ℕ
 ZERO = 48
 
--- The decimal digits of a number, the highest first, where so many are enough.
+-- The decimal digits of a number, the highest first, where no more than so many are needed.
 unfoldable pub digitsIn : ℕ → ℕ → List ℕ
 digitsIn zero n = []
 digitsIn (suc k) n = cond (ltb n 10) ((ZERO + n) ∷ []) (digitsIn k (n / 10) ++ ((ZERO + n % 10) ∷ []))
@@ -42,15 +44,15 @@ numeral (negsuc n) = MINUS ∷ decimal (suc n)
 unfoldable pub lineOf : List ℕ → List ℕ → List ℕ
 lineOf label number = label ++ (number ++ (FEED ∷ []))
 
--- The label of the samples, with a space behind it.
+-- The label of the samples, `samples` and a space.
 abbrev pub SAMPLES : List ℕ
 SAMPLES = 115 ∷ 97 ∷ 109 ∷ 112 ∷ 108 ∷ 101 ∷ 115 ∷ 32 ∷ []
 
--- The label of the position.
+-- The label of the position, `position` and a space.
 abbrev pub POSITION : List ℕ
 POSITION = 112 ∷ 111 ∷ 115 ∷ 105 ∷ 116 ∷ 105 ∷ 111 ∷ 110 ∷ 32 ∷ []
 
--- The label of the doubles.
+-- The label of the doubles, `doubles` and a space.
 abbrev pub DOUBLES : List ℕ
 DOUBLES = 100 ∷ 111 ∷ 117 ∷ 98 ∷ 108 ∷ 101 ∷ 115 ∷ 32 ∷ []
 

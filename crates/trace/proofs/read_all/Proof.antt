@@ -1,8 +1,7 @@
-use mathlib.Core.Path.{_≡_, sym, ap, subst, _∙_}
-use Prim.Native.Nat.{ℕ, _-_}
+use Prim.Native.Nat.{_-_}
+use native.Mathlib.Omega.{arith}
 use borrow.Author.Needs.{needs}
 use Rattle.tracing.specs.Trace.{LIMIT, started}
-use Rattle.tracing.specs.declared.trace.Trace.{Trace}
 use Rattle.trace.specs.Input.{Feeds}
 use Rattle.trace.proofs.InputLaws.{feeds-none, feeds-on, fewer-left}
 use Rattle.trace.proofs.read_all.Statement.{statement}
@@ -33,7 +32,10 @@ enum-told : tie.Need-enum-told Inv-loop μ-loop
 enum-told c = search needs
 
 loop-less : tie.Need-loop-less Inv-loop μ-loop
-loop-less c = let r = c .before .before .before .before .before .read-once in fewer-left _ (r .result) (r .ensures) (c .enum-told .given .1) (c .before .before .before .before .before .before .before .if1 .taken)
+loop-less c =
+    let r = c .before .before .before .before .before .read-once in
+    let x = c .before .before .before .before .before .before .before .before .before .loop .trace in
+    fewer-left x (r .result) (r .ensures) (c .enum-told .given .1) (omega arith)
 
 loop-again : tie.Need-loop-again Inv-loop μ-loop
 loop-again c = feeds-on (c .before .before .before .before .before .before .before .before .before .loop .inv) (c .before .before .before .before .before .read-once .ensures .feeds)

@@ -1,6 +1,6 @@
 use native.Mathlib.Omega.{arith}
 use Rattle.trace.proofs.InputLaws.{no-bytes, end-none, failed-none}
-use Rattle.trace.specs.declared.Input.the-variants.{Bytes, End, Failed}
+use Rattle.trace.specs.declared.Input.the-variants.{End, Failed}
 use borrow.Author.Needs.{needs}
 use Rattle.trace.proofs.read_once.Statement.{statement}
 use Rattle.trace.proofs.read_once.Tie as tie

@@ -1,9 +1,7 @@
-use mathlib.Core.Path.{_≡_, ap, _∙_}
-use Prim.Native.Nat.{ℕ, _+_, _-_, _^_, _<_}
+use mathlib.Core.Path.{_≡_, _∙_}
+use Prim.Native.Nat.{_+_, _-_, _^_, _<_}
 use native.Mathlib.Omega.{arith}
 use lib.IntN.{natAbs}
-use mir.Syntax.{w64}
-use mir.Val.{ofZ}
 use Rattle.integers.proofs.Machine.{back}
 use Rattle.tracing.proofs.TextLaws.{size-below, size-above}
 use borrow.Author.Needs.{needs}

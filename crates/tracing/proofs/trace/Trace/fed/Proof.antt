@@ -1,12 +1,12 @@
 use mathlib.Core.Path.{_≡_, sym, ap, _∙_}
 use mathlib.Core.List.{[], _∷_}
-use Prim.Native.Nat.{ℕ, _+_, _-_, _≤_}
+use Prim.Native.Nat.{_-_, _≤_}
 use native.Mathlib.Omega.{arith}
 use lib.ListN.{length, take, getD}
 use lib.Seq.{take-all}
 use Rattle.tracing.specs.Trace.{fedWith}
 use Rattle.tracing.specs.declared.trace.Trace.{Trace}
-use Rattle.tracing.proofs.TraceLaws.{fed-none, fed-next}
+use Rattle.tracing.proofs.TraceLaws.{take-next, fed-none, cut}
 use Rattle.tracing.proofs.trace.Trace.fed.Statement.{statement}
 use Rattle.tracing.proofs.trace.Trace.fed.Tie as tie
 
@@ -36,7 +36,10 @@ loop-again c =
     let l = c .before .before .before .loop in
     let a = c .before .before .before .before .before .args in (
       omega arith,
-      c .taken .ensures ∙ ap (λ (x : Trace). fedWith x (getD (a .bytes .now) (l .i) 0 ∷ [])) (l .inv .1) ∙ fed-next (a .self) (a .bytes .now) (l .i) (omega arith),
+      c .taken .ensures
+          ∙ ap (λ (x : Trace). fedWith x (getD (a .bytes .now) (l .i) 0 ∷ [])) (l .inv .1)
+          ∙ cut (a .self) (take (l .i) (a .bytes .now)) (getD (a .bytes .now) (l .i) 0 ∷ [])
+          ∙ ap (fedWith (a .self)) (take-next (a .bytes .now) (l .i) (omega arith)),
     )
 
 returns : tie.Need-returns Inv-loop μ-loop

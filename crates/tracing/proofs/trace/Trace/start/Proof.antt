@@ -1,6 +1,3 @@
-use mathlib.Core.Path.{ap}
-use mathlib.Core.List.{List}
-use Prim.Native.Nat.{ℕ}
 use Rattle.tracing.specs.Trace.{started}
 use Rattle.tracing.specs.declared.trace.Trace.{Trace}
 use borrow.Author.Needs.{needs}
