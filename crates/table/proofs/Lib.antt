@@ -2,3 +2,4 @@ pub mod TableLaws
 pub mod LocatedLaws
 pub mod PortLaws
 pub mod CallLaws
+pub mod OrderLaws
