@@ -8,7 +8,7 @@ use borrow.Author.Tests.{eq-eqb, ne-eqb, le-leb, lt-leb}
 use lib.ListN.{length, getD}
 use Rattle.integers.proofs.Balance.{Tested, yes, no, test}
 use Rattle.record.specs.declared.field.Field.the-variants.{Value, Bad}
-use Rattle.record.specs.Bytes.{Bytes, numberAt}
+use Rattle.record.specs.Bytes.{AllBytes, numberAt}
 use Rattle.record.specs.Record.{standsAt, fieldAt}
 use Rattle.record.proofs.BytesLaws.{number-below}
 
@@ -48,5 +48,5 @@ module _ (s : List ℕ) (at tag n : ℕ) {v next : ℕ} where
       go (no e) = let k = rw e at h in let z : _≡_ {A = ℕ} 0 1 = cc in absurd (omega arith)
 
   -- The value of a field of n bytes is below 256 ^ n.
-  pub field-below : Bytes s → fieldAt s at tag n ≡ Value v next → v < 256 ^ n
+  pub field-below : AllBytes s → fieldAt s at tag n ≡ Value v next → v < 256 ^ n
   field-below b h = subst (λ (m : ℕ). m < 256 ^ n) (field-told h .1) (number-below s (at + 3) n b)

@@ -69,15 +69,16 @@ onField Bad k = Refused Record
 abbrev pub check : Bool → Refusal → Read → Read
 check t r x = cond t x (Refused r)
 
--- Why a slice without the opening is refused: the number of another layout, or RECORD.
+-- A layout field's answer where the opening is missing: LAYOUT with its number, or RECORD.
 abbrev pub layoutOr : Field → Refusal
 layoutOr (Of n next) = Layout n
 layoutOr Bad = Record
 
+-- Why a slice without the opening is refused.
 unfoldable pub unopened : List ℕ → Refusal
 unopened s = layoutOr (fieldAt s 0 LAYOUT 2)
 
--- The four kinds.
+-- Whether a number is one of the four kinds.
 abbrev pub knownKind : ℕ → Bool
 knownKind k = sampledKind k || counterKind k
 
@@ -85,7 +86,7 @@ knownKind k = sampledKind k || counterKind k
 unfoldable pub within : Saved → Bool
 within s = goodConfig (s .config .kind) (s .config .depth) (s .config .width) (s .config .turn) && inRange (s .position)
 
--- What a configuration and the bits of a position say.
+-- What a configuration and the 64 bits of a position, in two's complement, say.
 abbrev pub saying : Config → ℕ → Saved
 saying c bits = record { config = c; position = toZ w64 bits }
 
@@ -148,13 +149,13 @@ recordOf s =
     (counterBytes (s .config .kind) (ofZ w64 (s .position)) (s .config .width))
     (sampledBytes (s .config .kind) (ofZ w64 (s .position)) (s .config .depth) (s .config .turn))
 
--- What a save answers, by the room that it has.
+-- What a save answers in a buffer of some length: VALUE, then ROOM, or the number of bytes.
 unfoldable pub savedAs : ℕ → Saved → Written
 savedAs room s =
     cond (within s)
     (cond (leb (length (recordOf s)) room) (Bytes (length (recordOf s))) (Unwritten Room))
     (Unwritten Value)
 
--- What a save leaves in the buffer.
+-- What a save leaves in a buffer: the record at the front, or on a refusal all as it was.
 unfoldable pub written : List ℕ → Saved → List ℕ
 written b s = cond (within s && leb (length (recordOf s)) (length b)) (sets b 0 (recordOf s)) b

@@ -1,4 +1,4 @@
-// The opening of a record and the shape of one field: tag, two bytes of length, value.
+// The opening of a record, the tags, and one field: tag, two bytes of length, value.
 ghost use mathlib.Core.Path.{_≡_};
 ghost use Prim.Native.Nat.{_+_, _≤_};
 ghost use lib.ListN.{length};
@@ -8,8 +8,10 @@ ghost use Rattle.record.specs.Record.{fieldAt, fieldBytes, opening};
 use crate::bytes::number;
 use crate::bytes::put_number;
 
+// The layout field with the number 1, which every record opens with.
 pub const OPENING: [u8; 5] = *b"\x01\x00\x02\x00\x01";
 
+// The tags.
 pub const LAYOUT: u8 = 0x01;
 
 pub const KIND: u8 = 0x02;
@@ -76,10 +78,8 @@ pub fn put_opening(buf: &mut [u8])
     requires { ⌜ 5 ≤ length (now buf) ⌝ }
     ensures { λ _. ⌜ now (buf .exit) ≡ sets (now (buf .entry)) 0 opening ⌝ }
 {
-    let mut i = 0;
-    while i < 5 {
+    for i in 0..5 {
         buf[i] = OPENING[i];
-        i += 1;
     }
 }
 
