@@ -11,14 +11,14 @@ const LAYOUT: u32 = 11;
 const RECORD: u32 = 12;
 
 #[repr(C)]
-struct Answer {
+struct Tested {
     refusal: u32,
     found: u32,
     value: i64,
 }
 
 extern "C" {
-    fn ubrenchip_test_record(slice: *const u8, length: usize) -> Answer;
+    fn ubrenchip_test_record(slice: *const u8, length: usize) -> Tested;
 }
 
 // A refusal's number, 0 for none, and the layout number found.
@@ -31,6 +31,7 @@ struct Answer {
 fn proved(slice: &[u8]) -> Answer {
     // The slice is alive during the call, which only reads it.
     let r = unsafe { ubrenchip_test_record(slice.as_ptr(), slice.len()) };
+    assert_eq!(r.value, 0, "a record test has no value");
     Answer {
         refusal: r.refusal,
         found: r.found,
