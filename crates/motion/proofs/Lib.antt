@@ -1,0 +1,3 @@
+pub mod DecodeLaws
+pub mod IndexLaws
+pub mod StepLaws
