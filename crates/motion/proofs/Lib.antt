@@ -1,3 +1,4 @@
 pub mod DecodeLaws
 pub mod IndexLaws
+pub mod CountLaws
 pub mod StepLaws
