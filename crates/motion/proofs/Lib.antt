@@ -1,4 +1,7 @@
+pub mod Check
+pub mod FilterLaws
 pub mod DecodeLaws
-pub mod IndexLaws
 pub mod CountLaws
+pub mod PaceLaws
+pub mod IndexLaws
 pub mod StepLaws
