@@ -104,3 +104,7 @@ doubles-count m n h = go (isE m)
     go : (b : Bool) → cond b (min 65535 (n + 1)) n ≡ min 65535 (n + cond b 1 0)
     go true = refl
     go false = omega arith
+
+-- Doubles keep to their sixteen bits.
+pub doubles-below : (m : Move) (n : ℕ) → n < 2 ^ 16 → countedDoubles m n < 2 ^ 16
+doubles-below m n h = omega (arith, doubles-count m n (omega arith))

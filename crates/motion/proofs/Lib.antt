@@ -5,3 +5,4 @@ pub mod CountLaws
 pub mod PaceLaws
 pub mod IndexLaws
 pub mod StepLaws
+pub mod KeepLaws
