@@ -9,7 +9,7 @@ use lib.Dec.{eqb, lit<}
 use lib.ListN.{getD, length}
 use Rattle.fields.specs.Field.{fieldOf, flagOf, bitOf}
 use Rattle.fields.specs.Layout.{split, join, Within}
-use Rattle.fields.proofs.LayoutLaws.{split-join, join-split}
+use Rattle.fields.proofs.LayoutLaws.{split-join, join-split, join-below}
 use Rattle.axis.specs.declared.config.Config.{Config}
 use Rattle.axis.specs.declared.row.Axis.{Axis}
 use Rattle.axis.specs.declared.row.Row.{Row}
@@ -122,6 +122,15 @@ within a h =
       bit-below (getD (a .levels) 1 false),
       bit-below (getD (a .levels) 2 false),
     )
+
+-- The row of an axis that a row can hold is four words of 64 bits.
+pub held-words : (a : Axis) → Held a → a .word < 2 ^ 64 → a .turn < 2 ^ 64 → Words (rowOf a)
+held-words a h w t = record {
+  w0 = w;
+  w1 = join-below layout (fieldsOf a) (within a (h .narrow));
+  w2 = join-below (32 ∷ 32 ∷ []) (a .age ∷ a .period ∷ []) (h .age, (h .period, tt));
+  w3 = t;
+}
 
 -- The field at place k of the layout, packed and read.
 pub back : (a : Axis) → Narrow a → (k : ℕ) → getD (split 0 layout (word1Of a)) k 0 ≡ getD (fieldsOf a) k 0
