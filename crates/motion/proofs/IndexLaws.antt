@@ -37,6 +37,7 @@ back-turns a m h =
   where
     whole : suc a ≡ suc (a % m) + a / m * m
     whole = omega (arith, div-add-mod' a m)
+
     go : Tested (ltb (suc (a % m)) m) → eqb (suc (a % m) % m) 0 ≡ eqb (m - suc (a % m)) 0
     go (yes e) =
         let f = ltb-true (suc (a % m)) m e in

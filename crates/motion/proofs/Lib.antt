@@ -6,3 +6,4 @@ pub mod PaceLaws
 pub mod IndexLaws
 pub mod StepLaws
 pub mod KeepLaws
+pub mod RowLaws

@@ -5,7 +5,6 @@ use mathlib.Core.Bool.{Bool, true, false, cond, not, _&&_, _||_, and-true, and-f
 use lib.IntN.{ℤ, pos, _+ℤ_}
 use Rattle.position.specs.Position.{positionOf}
 use Rattle.axis.specs.declared.row.Axis.{Axis}
-use Rattle.axis.specs.Row.{Agree}
 use Rattle.motion.specs.Lines.{Wire, A, B, Z, placeOf, levelOf, line, three}
 use Rattle.motion.specs.Filter.{filtered, linesBy}
 use Rattle.motion.specs.Decode.{isE, moveTo, worth}
@@ -18,27 +17,6 @@ use Rattle.motion.specs.declared.lines.Lines.{Lines}
 use Rattle.motion.specs.declared.lines.Raw.{Raw}
 use Rattle.motion.specs.declared.step.Stepped.{Stepped}
 use Rattle.motion.proofs.CountLaws.{counted}
-
-pub agree : {r s : Axis} → Agree r s → r ≡ s
-agree h = λ i. record {
-  word = h .word i;
-  kind = h .kind i;
-  depth = h .depth i;
-  width = h .width i;
-  primed = h .primed i;
-  armed = h .armed i;
-  homed = h .homed i;
-  range = h .range i;
-  index = h .index i;
-  levels = h .levels i;
-  runs = h .runs i;
-  doubles = h .doubles i;
-  direction = h .direction i;
-  age = h .age i;
-  period = h .period i;
-  turn = h .turn i;
-}
-
 
 -- Three lines that are read by name are those lines.
 pub lines-are : (x : Axis) (s : Raw) {n : Lines} → n ≡ linesBy x s → three n ≡ filtered x s

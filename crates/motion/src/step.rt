@@ -1,11 +1,13 @@
 // A sample on an axis, and on a row.
 ghost use mathlib.Core.Path.{_≡_};
 ghost use mathlib.Core.Bool.{true, false};
+ghost use Rattle.axis.specs.Row.{axisOf};
+ghost use Rattle.axis.specs.Sound.{statusOf};
 ghost use Rattle.motion.specs.Lines.{three, rawOf};
 ghost use Rattle.motion.specs.Filter.{Short};
 ghost use Rattle.motion.specs.Decode.{moveTo};
 ghost use Rattle.motion.specs.Index.{rises};
-ghost use Rattle.motion.specs.Step.{primedBy, settle, outcome, stepAxis};
+ghost use Rattle.motion.specs.Step.{settle, outcome, stepAxis, packed, kept, stepRow};
 use crate::count::count;
 use crate::count::count_doubles;
 use crate::decode::Move;
@@ -20,8 +22,12 @@ use crate::lines::Raw;
 use crate::lines::raw_of;
 use crate::pace::Pace;
 use crate::pace::paced;
+use axis::pack::pack;
 use axis::row::Axis;
 use axis::row::Row;
+use axis::sound::Status;
+use axis::sound::classify;
+use axis::unpack::unpack;
 
 // The axis after a sample, and its bits of the answer.
 pub struct Stepped {
@@ -112,4 +118,43 @@ pub fn step_axis(x: Axis, s: Raw) -> Stepped
         return advance(x, s);
     }
     prime(x, s)
+}
+
+// A sampled row after a sample: unpacked, stepped and packed.
+fn step_sampled(r: Row, nibble: u64) -> SteppedRow
+    requires { ⌜ statusOf r ≡ Status.Sampled ⌝ }
+    ensures { λ t. ⌜ t ≡ packed (stepAxis (axisOf r) (rawOf nibble)) ⌝ }
+{
+    let stepped = step_axis(unpack(r), raw_of(nibble));
+    let axis = stepped.axis;
+    SteppedRow {
+        row: pack(axis),
+        double: stepped.double,
+        index: stepped.index,
+        broken: false,
+    }
+}
+
+// A row that a sample leaves as it was.
+fn keep(r: Row, broken: bool) -> SteppedRow
+    ensures { λ t. ⌜ t ≡ kept r broken ⌝ }
+{
+    SteppedRow {
+        row: r,
+        double: false,
+        index: false,
+        broken,
+    }
+}
+
+// A row after a sample: a sampled one steps, any other stays, and only a broken one is marked.
+pub fn step_row(r: Row, nibble: u64) -> SteppedRow
+    ensures { λ t. ⌜ t ≡ stepRow r nibble ⌝ }
+{
+    match classify(r) {
+        Status::Sampled => step_sampled(r, nibble),
+        Status::Empty => keep(r, false),
+        Status::Counter => keep(r, false),
+        Status::Broken => keep(r, true),
+    }
 }

@@ -3,29 +3,21 @@ use native.Mathlib.Omega.{arith}
 use borrow.Author.Needs.{needs}
 use Rattle.motion.proofs.count.count_doubles.Statement.{statement}
 use Rattle.motion.proofs.count.count_doubles.Tie as tie
-use Rattle.motion.proofs.count.count_doubles.Reads as reads
-use Rattle.motion.proofs.count.count_doubles.Lts as lts
-use Rattle.motion.proofs.decode.is_double.Reads as is-double-reads
 
--- src/count.rt:53:8
 is-double-requires : tie.Need-is-double-requires
 is-double-requires c κs = search needs
 
--- src/count.rt:55:20
 add-result : tie.Need-add-result
 add-result c = search needs
 
--- src/count.rt:55:13
 returns : tie.Need-returns
 unfolding countedDoubles
 returns c = rw (← (c .before .before .is-double .ensures), c .before .if1 .taken) (omega arith)
 
--- src/count.rt:50:1
 returns-2 : tie.Need-returns-2
 unfolding countedDoubles
 returns-2 c = rw (← (c .before .before .is-double .ensures), c .before .if1 .taken) (omega arith)
 
--- src/count.rt:50:1
 returns-3 : tie.Need-returns-3
 unfolding countedDoubles
 returns-3 c = rw (← (c .before .is-double .ensures), c .if1 .left)

@@ -4,27 +4,19 @@ use borrow.Author.Tests.{ne-eqb}
 use borrow.Author.Needs.{needs}
 use Rattle.motion.proofs.decode.entry_at.Statement.{statement}
 use Rattle.motion.proofs.decode.entry_at.Tie as tie
-use Rattle.motion.proofs.decode.entry_at.Reads as reads
-use Rattle.motion.proofs.decode.entry_at.Lts as lts
-use Rattle.motion.proofs.decode.mark_at.Reads as mark-at-reads
 
--- src/decode.rt:51:9
 mark-at-requires : tie.Need-mark-at-requires
 mark-at-requires c κs = search needs
 
--- src/decode.rt:53:9
 returns : tie.Need-returns
 returns c = told-is (c .before .mark-at .ensures) (ap told (c .if1 .taken))
 
--- src/decode.rt:56:9
 returns-2 : tie.Need-returns-2
 returns-2 c = told-is (c .before .before .mark-at .ensures) (ap told (c .if2 .taken))
 
--- src/decode.rt:59:9
 returns-3 : tie.Need-returns-3
 returns-3 c = told-is (c .before .before .before .mark-at .ensures) (ap told (c .if3 .taken))
 
--- src/decode.rt:47:1
 returns-4 : tie.Need-returns-4
 returns-4 c = told-is (c .before .before .before .mark-at .ensures) (rw (ne-eqb _ _ (c .before .before .if1 .left), ne-eqb _ _ (c .before .if2 .left), ne-eqb _ _ (c .if3 .left)))
 

@@ -2,41 +2,31 @@ use Rattle.motion.specs.Decode.{isE}
 use borrow.Author.Needs.{needs}
 use Rattle.motion.proofs.decode.is_double.Statement.{statement}
 use Rattle.motion.proofs.decode.is_double.Tie as tie
-use Rattle.motion.proofs.decode.is_double.Reads as reads
-use Rattle.motion.proofs.decode.is_double.Lts as lts
 
--- src/decode.rt:82:24
 enum-told : tie.Need-enum-told
 enum-told c = search needs
 
--- src/decode.rt:83:26
 enum-told-2 : tie.Need-enum-told-2
 enum-told-2 c = search needs
 
--- src/decode.rt:84:23
 enum-told-3 : tie.Need-enum-told-3
 enum-told-3 c = search needs
 
--- src/decode.rt:85:25
 enum-told-4 : tie.Need-enum-told-4
 enum-told-4 c = search needs
 
--- src/decode.rt:78:1
 returns : tie.Need-returns
 unfolding isE
 returns c = rw (c .enum-told .given .1)
 
--- src/decode.rt:78:1
 returns-2 : tie.Need-returns-2
 unfolding isE
 returns-2 c = rw (c .enum-told2 .given .1)
 
--- src/decode.rt:78:1
 returns-3 : tie.Need-returns-3
 unfolding isE
 returns-3 c = rw (c .enum-told3 .given .1)
 
--- src/decode.rt:78:1
 returns-4 : tie.Need-returns-4
 unfolding isE
 returns-4 c = rw (c .enum-told4 .given .1)

@@ -3,40 +3,28 @@ use Rattle.motion.specs.Decode.{moveTo}
 use borrow.Author.Needs.{needs}
 use Rattle.motion.proofs.decode.move_to.Statement.{statement}
 use Rattle.motion.proofs.decode.move_to.Tie as tie
-use Rattle.motion.proofs.decode.move_to.Reads as reads
-use Rattle.motion.proofs.decode.move_to.Lts as lts
-use Rattle.motion.proofs.decode.code_of.Reads as code-of-reads
-use Rattle.motion.proofs.decode.entry_at.Reads as entry-at-reads
 
--- src/decode.rt:71:23
 array-read-code-of : tie.Need-array-read-code-of
 array-read-code-of c = search needs
 
--- src/decode.rt:71:34
 array-read-code-of-2 : tie.Need-array-read-code-of-2
 array-read-code-of-2 c = search needs
 
--- src/decode.rt:71:9
 code-of-requires : tie.Need-code-of-requires
 code-of-requires c κs = search needs
 
--- src/decode.rt:72:9
 code-of-requires-2 : tie.Need-code-of-requires-2
 code-of-requires-2 c κs = search needs
 
--- src/decode.rt:73:15
 mul-at : tie.Need-mul-at
 mul-at c = search needs
 
--- src/decode.rt:73:15
 add-at : tie.Need-add-at
 add-at c = search needs
 
--- src/decode.rt:74:5
 entry-at-requires : tie.Need-entry-at-requires
 entry-at-requires c κs = search needs
 
--- src/decode.rt:65:1
 returns : tie.Need-returns
 unfolding moveTo line placeOf three
 returns c = rw (c .entry-at .ensures, c .before .before .code-of .ensures .0, c .before .code-of2 .ensures .0)

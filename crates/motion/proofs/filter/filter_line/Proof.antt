@@ -3,24 +3,18 @@ use borrow.Author.Tests.{eq-eqb, ne-eqb}
 use borrow.Author.Needs.{needs}
 use Rattle.motion.proofs.filter.filter_line.Statement.{statement}
 use Rattle.motion.proofs.filter.filter_line.Tie as tie
-use Rattle.motion.proofs.filter.filter_line.Reads as reads
-use Rattle.motion.proofs.filter.filter_line.Lts as lts
 
--- src/filter.rt:17:9
 returns : tie.Need-returns
 unfolding filterLine
 returns c = rw (c .if1 .taken)
 
--- src/filter.rt:19:15
 add-run : tie.Need-add-run
 add-run c = search needs
 
--- src/filter.rt:21:9
 returns-2 : tie.Need-returns-2
 unfolding filterLine
 returns-2 c = rw (c .before .before .if1 .left, eq-eqb _ _ (c .if2 .taken))
 
--- src/filter.rt:11:1
 returns-3 : tie.Need-returns-3
 unfolding filterLine
 returns-3 c = rw (c .before .before .if1 .left, ne-eqb _ _ (c .if2 .left))

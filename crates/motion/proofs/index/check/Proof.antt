@@ -2,19 +2,13 @@ use mathlib.Core.Bool.{or-false}
 use borrow.Author.Needs.{needs}
 use Rattle.motion.proofs.index.check.Statement.{statement}
 use Rattle.motion.proofs.index.check.Tie as tie
-use Rattle.motion.proofs.index.check.Reads as reads
-use Rattle.motion.proofs.index.check.Lts as lts
-use Rattle.motion.proofs.index.off_turn.Reads as off-turn-reads
 
--- src/index.rt:49:24
 off-turn-requires : tie.Need-off-turn-requires
 off-turn-requires c κs = search needs
 
--- src/index.rt:49:9
 returns : tie.Need-returns
 returns c = rw (c .off-turn .ensures, c .before .if1 .taken)
 
--- src/index.rt:45:1
 returns-2 : tie.Need-returns-2
 returns-2 c = rw (c .if1 .left, or-false (c .before .args .index))
 

@@ -4,24 +4,17 @@ use borrow.Author.Tests.{lt-ltb}
 use borrow.Author.Needs.{needs}
 use Rattle.motion.proofs.index.off_turn.Statement.{statement}
 use Rattle.motion.proofs.index.off_turn.Tie as tie
-use Rattle.motion.proofs.index.off_turn.Reads as reads
-use Rattle.motion.proofs.index.off_turn.Lts as lts
-use Rattle.motion.proofs.index.distance.Reads as distance-reads
 
--- src/index.rt:39:9
 returns : tie.Need-returns
 unfolding offTurn
 returns c = rw (c .if1 .taken)
 
--- src/index.rt:41:5
 distance-requires : tie.Need-distance-requires
 distance-requires c κs = search needs
 
--- src/index.rt:41:5
 rem-result : tie.Need-rem-result
 rem-result c = search needs
 
--- src/index.rt:35:1
 returns-2 : tie.Need-returns-2
 unfolding offTurn
 returns-2 c = rw (c .distance .ensures, lt-ltb 0 (c .before .before .args .turn) (omega arith))

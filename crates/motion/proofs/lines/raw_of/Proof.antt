@@ -1,23 +1,16 @@
 use borrow.Author.Needs.{needs}
 use Rattle.motion.proofs.lines.raw_of.Statement.{statement}
 use Rattle.motion.proofs.lines.raw_of.Tie as tie
-use Rattle.motion.proofs.lines.raw_of.Reads as reads
-use Rattle.motion.proofs.lines.raw_of.Lts as lts
-use Rattle.fields.proofs.flag.Reads as flag-reads
 
--- src/lines.rt:30:12
 flag-requires : tie.Need-flag-requires
 flag-requires c κs = search needs
 
--- src/lines.rt:31:12
 flag-requires-2 : tie.Need-flag-requires-2
 flag-requires-2 c κs = search needs
 
--- src/lines.rt:32:12
 flag-requires-3 : tie.Need-flag-requires-3
 flag-requires-3 c κs = search needs
 
--- src/lines.rt:26:1
 returns : tie.Need-returns
 returns c = rw (c .before .before .flag .ensures, c .before .flag2 .ensures, c .flag3 .ensures)
 

@@ -3,55 +3,40 @@ use mathlib.Core.Path.{refl}
 use borrow.Author.Needs.{needs}
 use Rattle.motion.proofs.pace.paced.Statement.{statement}
 use Rattle.motion.proofs.pace.paced.Tie as tie
-use Rattle.motion.proofs.pace.paced.Reads as reads
-use Rattle.motion.proofs.pace.paced.Lts as lts
-use Rattle.motion.proofs.pace.older_by_one.Reads as older-by-one-reads
-use Rattle.motion.proofs.pace.step_period.Reads as step-period-reads
 
--- src/pace.rt:52:18
 enum-told : tie.Need-enum-told
 enum-told c = search needs
 
--- src/pace.rt:52:18
 older-by-one-requires : tie.Need-older-by-one-requires
 older-by-one-requires c κs = search needs
 
--- src/pace.rt:58:21
 enum-told-2 : tie.Need-enum-told-2
 enum-told-2 c = search needs
 
--- src/pace.rt:58:21
 step-period-requires : tie.Need-step-period-requires
 step-period-requires c κs = search needs
 
--- src/pace.rt:63:21
 enum-told-3 : tie.Need-enum-told-3
 enum-told-3 c = search needs
 
--- src/pace.rt:63:21
 step-period-requires-2 : tie.Need-step-period-requires-2
 step-period-requires-2 c κs = search needs
 
--- src/pace.rt:65:25
 enum-told-4 : tie.Need-enum-told-4
 enum-told-4 c = search needs
 
--- src/pace.rt:42:1
 returns : tie.Need-returns
 unfolding pacedDirection pacedAge pacedPeriod
 returns c = rw (c .before .enum-told .given .1) (refl, c .older-by-one .ensures, refl)
 
--- src/pace.rt:42:1
 returns-2 : tie.Need-returns-2
 unfolding pacedDirection pacedAge pacedPeriod
 returns-2 c = rw (c .before .enum-told2 .given .1) (refl, refl, c .step-period .ensures)
 
--- src/pace.rt:42:1
 returns-3 : tie.Need-returns-3
 unfolding pacedDirection pacedAge pacedPeriod
 returns-3 c = rw (c .before .enum-told3 .given .1) (refl, refl, c .step-period2 .ensures)
 
--- src/pace.rt:42:1
 returns-4 : tie.Need-returns-4
 unfolding pacedDirection pacedAge pacedPeriod
 returns-4 c = rw (c .enum-told4 .given .1) (refl, refl, refl)

@@ -2,20 +2,14 @@ use Rattle.motion.specs.Pace.{stepPeriod}
 use borrow.Author.Needs.{needs}
 use Rattle.motion.proofs.pace.step_period.Statement.{statement}
 use Rattle.motion.proofs.pace.step_period.Tie as tie
-use Rattle.motion.proofs.pace.step_period.Reads as reads
-use Rattle.motion.proofs.pace.step_period.Lts as lts
-use Rattle.motion.proofs.pace.older_by_one.Reads as older-by-one-reads
 
--- src/pace.rt:34:9
 older-by-one-requires : tie.Need-older-by-one-requires
 older-by-one-requires c κs = search needs
 
--- src/pace.rt:36:9
 returns : tie.Need-returns
 unfolding stepPeriod
 returns c = rw (← (c .before .older-by-one .ensures), c .if1 .taken)
 
--- src/pace.rt:31:1
 returns-2 : tie.Need-returns-2
 unfolding stepPeriod
 returns-2 c = rw (← (c .before .older-by-one .ensures), c .if1 .left)

@@ -2,10 +2,7 @@ use Rattle.motion.specs.Step.{outcome, primedBy}
 use mathlib.Core.Path.{refl}
 use Rattle.motion.proofs.step.prime.Statement.{statement}
 use Rattle.motion.proofs.step.prime.Tie as tie
-use Rattle.motion.proofs.step.prime.Reads as reads
-use Rattle.motion.proofs.step.prime.Lts as lts
 
--- src/step.rt:42:1
 returns : tie.Need-returns
 unfolding outcome primedBy
 returns c = refl

@@ -1,39 +1,26 @@
 use Rattle.motion.specs.Step.{settle}
 use Rattle.motion.specs.Lines.{three}
-use Rattle.motion.proofs.StepLaws.{agree}
+use Rattle.axis.proofs.RowLaws.{agree}
 use mathlib.Core.Path.{refl}
 use borrow.Author.Needs.{needs}
 use Rattle.motion.proofs.step.settled.Statement.{statement}
 use Rattle.motion.proofs.step.settled.Tie as tie
-use Rattle.motion.proofs.step.settled.Reads as reads
-use Rattle.motion.proofs.step.settled.Lts as lts
-use Rattle.motion.proofs.count.count.Reads as count-reads
-use Rattle.motion.proofs.count.count_doubles.Reads as count-doubles-reads
-use Rattle.motion.proofs.index.check.Reads as check-reads
-use Rattle.motion.proofs.index.home.Reads as home-reads
-use Rattle.motion.proofs.pace.paced.Reads as paced-reads
 
--- src/step.rt:64:9
 count-requires : tie.Need-count-requires
 count-requires c κs = search needs
 
--- src/step.rt:65:9
 paced-requires : tie.Need-paced-requires
 paced-requires c κs = search needs
 
--- src/step.rt:76:5
 home-requires : tie.Need-home-requires
 home-requires c κs = search needs
 
--- src/step.rt:81:5
 check-requires : tie.Need-check-requires
 check-requires c κs = search needs
 
--- src/step.rt:84:5
 count-doubles-requires : tie.Need-count-doubles-requires
 count-doubles-requires c κs = search needs
 
--- src/step.rt:57:1
 returns : tie.Need-returns
 unfolding settle three
 returns c =
