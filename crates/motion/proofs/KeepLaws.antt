@@ -11,12 +11,12 @@ use Rattle.axis.specs.Sound.{SampledAxis}
 use Rattle.motion.specs.Lines.{Wire, A, B, Z, placeOf, levelOf, line}
 use Rattle.motion.specs.Filter.{filtered, Short}
 use Rattle.motion.specs.Decode.{isE, moveTo}
-use Rattle.motion.specs.Count.{countedWord}
+use Rattle.motion.specs.Count.{countedWord, Reach}
 use Rattle.motion.specs.Index.{rises, offTurn}
 use Rattle.motion.specs.Step.{primedBy, settle, advanced, outcome, stepAxis}
 use Rattle.motion.specs.declared.lines.Raw.{Raw}
 use Rattle.motion.proofs.FilterLaws.{filter-short}
-use Rattle.motion.proofs.CountLaws.{Reach, count-reach, doubles-below}
+use Rattle.motion.proofs.CountLaws.{count-reach, doubles-below}
 use Rattle.motion.proofs.PaceLaws.{direction-below, age-below, period-below, resting}
 
 -- The runs of a sampled axis are short.

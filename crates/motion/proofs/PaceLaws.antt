@@ -28,7 +28,7 @@ age-below Double age = lit< tt
 
 step-below : (side direction age : ℕ) → stepPeriod side direction age ≤ 2 ^ 32 - 2
 unfolding stepPeriod
-step-below side direction age = go (test (ltb (older age) (2 ^ 32 - 1))) (eqb direction side)
+step-below side direction age = go (test (ltb (older age) (2 ^ 32 - 1))) _
   where
     go : Tested (ltb (older age) (2 ^ 32 - 1)) → (b : Bool) → cond (ltb (older age) (2 ^ 32 - 1) && b) (older age) 0 ≤ 2 ^ 32 - 2
     go (yes e) true = rw e (omega (arith, ltb-true))
