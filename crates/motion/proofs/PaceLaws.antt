@@ -10,7 +10,7 @@ use Rattle.motion.specs.Pace.{older, pacedDirection, pacedAge, stepPerio
 use Rattle.motion.specs.declared.decode.Move.{Move}
 use Rattle.motion.specs.declared.decode.Move.the-variants.{Still, Forward, Back, Double}
 
--- ---- what a row can hold
+-- ---- what a row can hold: direction, age, period, and no period where there is no direction
 
 pub direction-below : (m : Move) (d : ℕ) → d < 3 → pacedDirection m d < 3
 unfolding pacedDirection
