@@ -34,5 +34,6 @@ told-mark Forward = refl
 told-mark Back = refl
 told-mark Double = refl
 
+-- So what the code tells from a mark that was read is the entry.
 pub told-is : {m n : Move} {z : ℤ} → z ≡ mark m → told (ofZ w8 z) ≡ n → n ≡ m
 told-is {m} e h = sym h ∙ ap (λ (z : ℤ). told (ofZ w8 z)) e ∙ told-mark m

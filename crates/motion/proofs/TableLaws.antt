@@ -18,7 +18,8 @@ use Rattle.motion.specs.declared.decode.Move.the-variants.{Still, Forwar
 use Rattle.motion.proofs.Check.{every, at}
 use Rattle.motion.proofs.DecodeLaws.{told, told-mark}
 
--- Each test of the rule, and what it says when it passes.
+-- ---- the tests of the rule, and what each says when it passes
+
 same : Move → Move → Bool
 same m n = eqb (ofZ w8 (mark m)) (ofZ w8 (mark n))
 
@@ -48,37 +49,47 @@ each true true false d e t = absurd t
 each true false c d e t = absurd t
 each false b c d e t = absurd t
 
--- The rule of a table at one pair of codes.
+-- ---- the rule of a table at one pair of codes, in five parts
+
 module _ (ms : List Move) (i j : ℕ) where
+  -- The entries from i to j, and back.
   there : Move
   there = getD ms (4 * i + j) Still
 
   back : Move
   back = getD ms (4 * j + i) Still
 
+  -- The two cancel.
   cancels : Bool
   cancels = eqb (natAbs (worth there +ℤ worth back)) 0
 
+  -- E is there exactly where both lines differ.
   doubles : Bool
   doubles = Bool·beq (isE there) (opposite i j)
 
+  -- + leads to the next code.
   ahead : Bool
   ahead = not (same there Forward) || eqb j (nextCode i)
 
+  -- - leads from the next code.
   behind : Bool
   behind = not (same there Back) || eqb i (nextCode j)
 
+  -- Equal codes are no step.
   stays : Bool
   stays = not (eqb i j) || same there Still
 
   fair : Bool
   fair = cancels && doubles && ahead && behind && stays
 
+-- The three tables keep the rule at every pair of codes, as is computed.
 fair-tables : (p q : Bool) → T (every 4 (λ i. every 4 (λ j. fair (cond p x4 (cond q x2 x1)) i j)))
 unfolding there back cancels doubles ahead behind stays fair same worth isE mark opposite nextCode x1 x2 x4
 fair-tables true q = tt
 fair-tables false true = tt
 fair-tables false false = tt
+
+-- ---- the rule at each pair of codes, for every kind
 
 module _ (kind i j : ℕ) (a : i < 4) (b : j < 4) where
   fair-at : T (fair (tableOf kind) i j)
