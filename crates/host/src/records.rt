@@ -1,7 +1,5 @@
 // The record test for the C host. A slice passes as its first byte's address and its length.
-ghost use mathlib.Core.Path.{_≡_};
-ghost use Rattle.record.specs.Answer.{testedNumber, testedFound};
-ghost use Rattle.record.specs.Record.{testedAs};
+ghost use Rattle.host.specs.Records.{RecordAnswer};
 use record::answer::Tested;
 
 // The refusal's number, 0 where the record is accepted, and the layout number found, 0 but for LAYOUT.
@@ -14,7 +12,7 @@ pub struct RecordTested {
 // Whether a record is accepted, or its refusal.
 #[no_mangle]
 pub extern "C" fn ubrenchip_test_record(slice: &[u8]) -> RecordTested
-    ensures { λ r. ⌜ (r .refusal ≡ testedNumber (testedAs (now (slice .entry)))) × (r .found ≡ testedFound (testedAs (now (slice .entry)))) ⌝ }
+    ensures { λ r. ⌜ RecordAnswer (now (slice .entry)) r ⌝ }
 {
     match record::reader::test(slice) {
         Tested::Accepted => RecordTested {
