@@ -55,33 +55,6 @@ number-below s at n b =
     let l : length xs ≤ n = simp length-take (omega arith) in
     lt-of-lt-of-le (omega (arith, h)) (pow-le-pow-right {n = 256} (omega arith) {j = n} l)
 
--- ---- there and back
-
-pub length-bytesOf : (n v : ℕ) → length (bytesOf n v) ≡ n
-unfolding bytesOf
-length-bytesOf zero v = refl
-length-bytesOf (suc n) v = simp length-append (omega (arith, length-bytesOf n (v / 256)))
-
--- HEADLINE: a number below 256 ^ n is read back from its n bytes.
-pub number-back : (n v : ℕ) → v < 256 ^ n → numberIn (bytesOf n v) ≡ v
-unfolding bytesOf numberFrom
-number-back zero v h = omega arith
-number-back (suc n) v h =
-    number-snoc 0 (bytesOf n (v / 256)) (v % 256) ∙ ap (λ (k : ℕ). k * 256 + v % 256) (number-back n (v / 256) (omega (arith, div-add-mod' v 256))) ∙ div-add-mod' v 256
-
-bytes-from : (n v : ℕ) (xs : List ℕ) → AllBytes xs → bytesOf (n + length xs) (numberFrom v xs) ≡ bytesOf n v ++ xs
-unfolding numberFrom bytesOf
-bytes-from n v [] b = simp (add-zero, append-nil)
-bytes-from n v (x ∷ xs) b =
-    ap (λ (m : ℕ). bytesOf m (numberFrom (v * 256 + x) xs)) (add-suc n (length xs) ∙ sym (suc-add n (length xs)))
-    ∙ bytes-from (suc n) (v * 256 + x) xs (λ i. b (suc i))
-    ∙ rw (digits-div v (b 0), digits-mod v (b 0)) (append-assoc (bytesOf n v) (x ∷ []) xs)
-
--- HEADLINE: bytes that were read as a number are the bytes of that number.
-pub bytes-back : (n : ℕ) (xs : List ℕ) → AllBytes xs → length xs ≡ n → bytesOf n (numberIn xs) ≡ xs
-unfolding bytesOf
-bytes-back n xs b e = rw (← e) (ap (λ (m : ℕ). bytesOf m (numberIn xs)) (sym (zero-add (length xs))) ∙ bytes-from 0 0 xs b)
-
 -- ---- beginnings
 
 no-and : (t : Bool) {b : Bool} → b ≡ false → (t && b) ≡ false
@@ -117,3 +90,30 @@ starts-is (x ∷ xs) (y ∷ ys) h = go (test (eqb x y)) (starts-is xs ys)
     go : Tested (eqb x y) → (starts xs ys ≡ true → ys ≡ xs ++ drop (length xs) ys) → y ∷ ys ≡ x ∷ (xs ++ drop (length xs) ys)
     go (yes e) f = rw (← (eqb-true x y e)) (ap (λ (r : List ℕ). x ∷ r) (f (rw e at h)))
     go (no e) f = let k = rw e at h in let z : _≡_ {A = ℕ} 0 1 = cc in absurd (omega arith)
+
+-- ---- there and back
+
+pub length-bytesOf : (n v : ℕ) → length (bytesOf n v) ≡ n
+unfolding bytesOf
+length-bytesOf zero v = refl
+length-bytesOf (suc n) v = simp length-append (omega (arith, length-bytesOf n (v / 256)))
+
+-- HEADLINE: a number below 256 ^ n is read back from its n bytes.
+pub number-back : (n v : ℕ) → v < 256 ^ n → numberIn (bytesOf n v) ≡ v
+unfolding bytesOf numberFrom
+number-back zero v h = omega arith
+number-back (suc n) v h =
+    number-snoc 0 (bytesOf n (v / 256)) (v % 256) ∙ ap (λ (k : ℕ). k * 256 + v % 256) (number-back n (v / 256) (omega (arith, div-add-mod' v 256))) ∙ div-add-mod' v 256
+
+bytes-from : (n v : ℕ) (xs : List ℕ) → AllBytes xs → bytesOf (n + length xs) (numberFrom v xs) ≡ bytesOf n v ++ xs
+unfolding numberFrom bytesOf
+bytes-from n v [] b = simp (add-zero, append-nil)
+bytes-from n v (x ∷ xs) b =
+    ap (λ (m : ℕ). bytesOf m (numberFrom (v * 256 + x) xs)) (add-suc n (length xs) ∙ sym (suc-add n (length xs)))
+    ∙ bytes-from (suc n) (v * 256 + x) xs (λ i. b (suc i))
+    ∙ rw (digits-div v (b 0), digits-mod v (b 0)) (append-assoc (bytesOf n v) (x ∷ []) xs)
+
+-- HEADLINE: bytes that were read as a number are the bytes of that number.
+pub bytes-back : (n : ℕ) (xs : List ℕ) → AllBytes xs → length xs ≡ n → bytesOf n (numberIn xs) ≡ xs
+unfolding bytesOf
+bytes-back n xs b e = rw (← e) (ap (λ (m : ℕ). bytesOf m (numberIn xs)) (sym (zero-add (length xs))) ∙ bytes-from 0 0 xs b)

@@ -25,12 +25,12 @@ use Rattle.record.specs.declared.answer.Written.{Written}
 use Rattle.record.specs.declared.answer.Written.the-variants.{Refused as Unwritten}
 use Rattle.record.specs.Bytes.{AllBytes, numberIn, numberFrom, bytesOf, starts}
 use Rattle.record.specs.Answer.{readNumber, readFound, testedOf, testedNumber, testedFound}
-use Rattle.record.specs.Record.{within, readAs, testedAs, opening, fieldBytes, headBytes, counterBytes, sampledBytes, recordOf, savedAs, written, LAYOUT}
+use Rattle.record.specs.Record.{within, readAs, testedAs, opening, fieldBytes, headBytes, counterBytes, sampledBytes, recordOf, savedAs, written, Saves, Shaped, LAYOUT}
 use Rattle.record.specs.Order.{otherLayout, layoutIn, Judged, other-layout, bad-nine, bad-kind, bad-rest, bad-value, all-good}
 use Rattle.record.proofs.BytesLaws.{number-back, starts-is}
 use Rattle.record.proofs.OrderLaws.{exactly, passed}
 use Rattle.record.proofs.RoundTrip.{written-read, read-written}
-use Rattle.record.proofs.WriterLaws.{Saves, counter-long, sampled-long, counter-record, sampled-record}
+use Rattle.record.proofs.WriterLaws.{counter-long, sampled-long, counter-record, sampled-record}
 
 -- HEADLINE: what is written within its limits is read back as it was.
 pub read-back : (s : Saved) → within s ≡ true → readAs (recordOf s) ≡ Accepted s
@@ -44,23 +44,18 @@ one-encoding s said b h = read-written s b said h
 pub one-slice : (s t : List ℕ) (said : Saved) → AllBytes s → AllBytes t → readAs s ≡ Accepted said → readAs t ≡ Accepted said → s ≡ t
 one-slice s t said b c h k = sym (one-encoding s said b h) ∙ one-encoding t said c k
 
--- The five opening bytes, and 34 or 27 bytes by the kind.
-pub record Shaped (s : List ℕ) (kind : ℕ) : Type 0 where
-  pub opens : take 5 s ≡ opening
-  pub long : length s ≡ cond (counterKind kind) 27 34
-
 -- HEADLINE: every record that is written opens with the five bytes and has 34 or 27.
-pub written-shape : (s : Saved) → Shaped (recordOf s) (s .config .kind)
+pub written-shape : (s : Saved) → Shaped (s .config .kind) (recordOf s)
 unfolding counterBytes sampledBytes headBytes fieldBytes
 written-shape s = go (test (counterKind (s .config .kind)))
   where
-    go : Told (counterKind (s .config .kind)) → Shaped (recordOf s) (s .config .kind)
+    go : Told (counterKind (s .config .kind)) → Shaped (s .config .kind) (recordOf s)
     go (yes k) = record { opens = rw (counter-record s k); long = rw k (counter-long s k) }
     go (no k) = record { opens = rw (sampled-record s k); long = rw k (sampled-long s k) }
 
 -- HEADLINE: every slice of bytes that is accepted opens with the five bytes and has 34 or 27.
-pub accepted-shape : (s : List ℕ) (said : Saved) → AllBytes s → readAs s ≡ Accepted said → Shaped s (said .config .kind)
-accepted-shape s said b h = subst (λ (l : List ℕ). Shaped l (said .config .kind)) (one-encoding s said b h) (written-shape said)
+pub accepted-shape : (s : List ℕ) (said : Saved) → AllBytes s → readAs s ≡ Accepted said → Shaped (said .config .kind) s
+accepted-shape s said b h = subst (Shaped (said .config .kind)) (one-encoding s said b h) (written-shape said)
 
 -- HEADLINE: what is accepted is within its limits.
 pub accepted-within : (s : List ℕ) (said : Saved) → readAs s ≡ Accepted said → within said ≡ true
@@ -121,11 +116,11 @@ layout-found s n h = go (exactly s (Refused (Layout n)) .0 h)
   where
     go : Judged s (Refused (Layout n)) → (otherLayout s ≡ true) × (n ≡ layoutIn s)
     go (other-layout l e) = (l, cc)
-    go (bad-nine l m e) = let z : _≡_ {A = ℕ} 0 1 = cc in absurd (omega arith)
-    go (bad-kind m k e) = let z : _≡_ {A = ℕ} 0 1 = cc in absurd (omega arith)
-    go (bad-rest m k r e) = let z : _≡_ {A = ℕ} 0 1 = cc in absurd (omega arith)
-    go (bad-value m k r w e) = let z : _≡_ {A = ℕ} 0 1 = cc in absurd (omega arith)
-    go (all-good m k r w e) = let z : _≡_ {A = ℕ} 0 1 = cc in absurd (omega arith)
+    go (bad-nine l m e) = absurd (omega (arith, ap readNumber e))
+    go (bad-kind m k e) = absurd (omega (arith, ap readNumber e))
+    go (bad-rest m k r e) = absurd (omega (arith, ap readNumber e))
+    go (bad-value m k r w e) = absurd (omega (arith, ap readNumber e))
+    go (all-good m k r w e) = absurd (omega (arith, ap readNumber e))
 
 -- ---- the buffer of a save
 

@@ -61,16 +61,12 @@ pub fn read_field(slice: &[u8], at: usize, tag: u8, n: u8) -> Field
     if slice.len() - at < 3 + size {
         return Field::Bad;
     }
-    if slice[at] != tag {
-        return Field::Bad;
+    if (slice[at] == tag) & (slice[at + 1] == 0) & (slice[at + 2] == n) {
+        let next = at + 3 + size;
+        Field::Value(number(slice, at + 3, size), next)
+    } else {
+        Field::Bad
     }
-    if slice[at + 1] != 0 {
-        return Field::Bad;
-    }
-    if slice[at + 2] != n {
-        return Field::Bad;
-    }
-    Field::Value(number(slice, at + 3, size), at + 3 + size)
 }
 
 // The five opening bytes.
