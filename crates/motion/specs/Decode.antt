@@ -1,6 +1,6 @@
 -- The transition tables: document 01, "A port sample", Decode.
-use Prim.Native.Nat.{ℕ, _+_, _*_}
-use mathlib.Core.Bool.{Bool, true, false, cond}
+use Prim.Native.Nat.{ℕ, _+_, _*_, _/_, _%_}
+use mathlib.Core.Bool.{Bool, true, false, cond, not, _&&_}
 use mathlib.Core.List.{List, [], _∷_}
 use lib.Dec.{eqb}
 use lib.ListN.{getD}
@@ -65,6 +65,14 @@ entryIn kind at = getD (tableOf kind) at O
 -- The entry of a step from an old code to a new one.
 abbrev pub entry : ℕ → ℕ → ℕ → Move
 entry kind old new = entryIn kind (4 * old + new)
+
+-- The code after a code, going forward: 0, 1, 3, 2, 0.
+unfoldable pub nextCode : ℕ → ℕ
+nextCode c = getD (1 ∷ 3 ∷ 0 ∷ 2 ∷ []) c 0
+
+-- Whether two codes differ in both lines.
+unfoldable pub opposite : ℕ → ℕ → Bool
+opposite old new = not (eqb (old % 2) (new % 2)) && not (eqb (old / 2) (new / 2))
 
 -- What an entry adds to the position.
 unfoldable pub worth : Move → ℤ

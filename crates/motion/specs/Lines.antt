@@ -5,6 +5,7 @@ use lib.ListN.{getD}
 use Rattle.fields.specs.Field.{flagOf}
 use Rattle.axis.specs.declared.row.Axis.{Axis}
 use Rattle.motion.specs.declared.lines.Line.{Line}
+use Rattle.motion.specs.declared.lines.Lines.{Lines}
 use Rattle.motion.specs.declared.lines.Raw.{Raw}
 
 -- The three lines.
@@ -33,7 +34,7 @@ unfoldable pub line : Axis → Wire → Line
 line x w = record { level = getD (x .levels) (placeOf w) false; run = getD (x .runs) (placeOf w) 0 }
 
 -- Three lines, by name.
-unfoldable pub three : Line → Line → Line → Wire → Line
-three a b z A = a
-three a b z B = b
-three a b z Z = z
+unfoldable pub three : Lines → Wire → Line
+three n A = n .a
+three n B = n .b
+three n Z = n .z

@@ -1,4 +1,6 @@
 // The three lines of an axis.
+ghost use mathlib.Core.Path.{_≡_};
+ghost use Rattle.motion.specs.Lines.{rawOf};
 
 // The raw levels of one sample.
 pub struct Raw {
@@ -18,4 +20,15 @@ pub struct Lines {
     pub a: Line,
     pub b: Line,
     pub z: Line,
+}
+
+// The raw levels of a sample's four bits.
+pub fn raw_of(nibble: u64) -> Raw
+    ensures { λ r. ⌜ r ≡ rawOf nibble ⌝ }
+{
+    Raw {
+        a: fields::flag(nibble, 0),
+        b: fields::flag(nibble, 1),
+        z: fields::flag(nibble, 2),
+    }
 }

@@ -1,0 +1,107 @@
+-- Demand 2 for one sampled axis: what every field of it is after a history, from any axis that a sound sampled row holds.
+use mathlib.Core.Path.{_≡_, sym, _∙_, ap}
+use mathlib.Core.Bool.{false, _||_}
+use mathlib.Core.List.{List}
+use Prim.Native.Nat.{_+_, min}
+use lib.IntN.{_+ℤ_}
+use Rattle.position.specs.Position.{positionOf}
+use Rattle.position.proofs.PositionLaws.{position-word}
+use Rattle.axis.specs.declared.row.Axis.{Axis}
+use Rattle.motion.specs.Lines.{Wire, line}
+use Rattle.motion.specs.Step.{stepAxis}
+use Rattle.motion.specs.declared.lines.Line.{Line}
+use Rattle.motion.specs.declared.lines.Raw.{Raw}
+use Rattle.motion.specs.declared.step.Stepped.{Stepped}
+use Rattle.history.specs.Acts.{Act, after, Legal}
+use Rattle.history.specs.Start.{Start}
+use Rattle.history.specs.Levels.{primedAt, levelAt, runAt, roseAt}
+use Rattle.history.specs.Entries.{entries, numberOfE, doubleAt}
+use Rattle.history.specs.Homing.{armedAt, homedAt}
+use Rattle.history.specs.Tally.{sum, walk, heldIn, placeTally, positionAt, doublesTally}
+use Rattle.history.specs.Pace.{directionOf, ageOf, periodOf}
+use Rattle.history.specs.Index.{indexAt}
+use Rattle.history.specs.Told.{told, answered}
+use Rattle.history.proofs.LevelsLaws.{line-told}
+use Rattle.history.proofs.TallyLaws.{walked-sum}
+use Rattle.history.proofs.ToldLaws.{position-in, whole-history, sample-history}
+
+module _ (x : Axis) (start : Start x) (h : List Act) (legal : Legal h) where
+  whole : after x h ≡ told x h
+  whole = whole-history x start h legal
+
+  -- HEADLINE: kind, depth, width and counts per turn never change.
+  pub configuration-history :
+      (after x h .kind ≡ x .kind) × (after x h .depth ≡ x .depth) × (after x h .width ≡ x .width) × (after x h .turn ≡ x .turn)
+  unfolding told
+  configuration-history =
+      (ap (λ (y : Axis). y .kind) whole, ap (λ (y : Axis). y .depth) whole, ap (λ (y : Axis). y .width) whole, ap (λ (y : Axis). y .turn) whole)
+
+  -- HEADLINE: PRIMED.
+  pub primed-history : after x h .primed ≡ primedAt x h
+  unfolding told
+  primed-history = ap (λ (y : Axis). y .primed) whole
+
+  -- HEADLINE: each filtered level is that of the latest consecutive equal raw samples.
+  pub level-history : (w : Wire) → line (after x h) w .level ≡ levelAt x w h
+  level-history w = ap (λ (y : Axis). line y w .level) whole ∙ ap (λ (n : Line). n .level) (line-told x w h)
+
+  -- HEADLINE: each run is the streak of newest samples that differ from the filtered level.
+  pub run-history : (w : Wire) → line (after x h) w .run ≡ runAt x w h
+  run-history w = ap (λ (y : Axis). line y w .run) whole ∙ ap (λ (n : Line). n .run) (line-told x w h)
+
+  -- HEADLINE: the position is the last value given and the entries since, but those that were held at the end of the range.
+  pub position-walk : positionOf (after x h .word) ≡ walk (placeTally x h .value .position) (placeTally x h .moves)
+  unfolding told
+  position-walk = ap (λ (y : Axis). positionOf (y .word)) whole ∙ position-word (positionAt x h) (position-in x start h legal)
+
+  -- HEADLINE: RANGE is set where an entry was held, or as it was given.
+  pub range-history :
+      after x h .range ≡ (placeTally x h .value .range || heldIn (placeTally x h .value .position) (placeTally x h .moves))
+  unfolding told
+  range-history = ap (λ (y : Axis). y .range) whole
+
+  -- HEADLINE: while RANGE is clear, the position is the last value given plus the sum of the entries since.
+  pub position-history : after x h .range ≡ false →
+      positionOf (after x h .word) ≡ placeTally x h .value .position +ℤ sum (placeTally x h .moves)
+  position-history clear = position-walk ∙ walked-sum (placeTally x h) (sym range-history ∙ clear)
+
+  -- HEADLINE: doubles is the smaller of 65,535 and the E entries since the last acknowledge.
+  pub doubles-history : after x h .doubles ≡ min 65535 (doublesTally x h .value + numberOfE (doublesTally x h .moves))
+  unfolding told
+  doubles-history = ap (λ (y : Axis). y .doubles) whole
+
+  -- HEADLINE: direction, age and period are those of the entries.
+  pub direction-history : after x h .direction ≡ directionOf x (entries x h)
+  unfolding told
+  direction-history = ap (λ (y : Axis). y .direction) whole
+
+  pub age-history : after x h .age ≡ ageOf x (entries x h)
+  unfolding told
+  age-history = ap (λ (y : Axis). y .age) whole
+
+  pub period-history : after x h .period ≡ periodOf x (entries x h)
+  unfolding told
+  period-history = ap (λ (y : Axis). y .period) whole
+
+  -- HEADLINE: ARMED, HOMED and INDEX.
+  pub armed-history : after x h .armed ≡ armedAt x h
+  unfolding told
+  armed-history = ap (λ (y : Axis). y .armed) whole
+
+  pub homed-history : after x h .homed ≡ homedAt x h
+  unfolding told
+  homed-history = ap (λ (y : Axis). y .homed) whole
+
+  pub index-history : after x h .index ≡ indexAt x h
+  unfolding told
+  index-history = ap (λ (y : Axis). y .index) whole
+
+  -- HEADLINE: a sample's double bit is set exactly where its entry is E, also where doubles no longer grows.
+  pub double-bit : (s : Raw) → stepAxis (after x h) s .double ≡ doubleAt x s h
+  unfolding answered
+  double-bit s = ap (λ (o : Stepped). o .double) (sample-history x start s h legal)
+
+  -- HEADLINE: a sample's index bit is set exactly where filtered Z rose.
+  pub index-bit : (s : Raw) → stepAxis (after x h) s .index ≡ roseAt x s h
+  unfolding answered
+  index-bit s = ap (λ (o : Stepped). o .index) (sample-history x start s h legal)

@@ -1,0 +1,74 @@
+-- The laws of the filtered lines of a history.
+use mathlib.Core.Path.{_≡_, refl, _∙_, ap}
+use mathlib.Core.Bool.{Bool, true, false}
+use mathlib.Core.List.{List, [], _∷_}
+use Prim.Native.Nat.{_<_}
+use native.Mathlib.Omega.{arith}
+use Rattle.axis.specs.declared.row.Axis.{Axis}
+use Rattle.motion.specs.Lines.{Wire, A, B, Z, placeOf, levelOf, line}
+use Rattle.motion.specs.Filter.{filtered}
+use Rattle.motion.specs.declared.lines.Line.{Line}
+use Rattle.motion.specs.declared.lines.Raw.{Raw}
+use Rattle.history.specs.Acts.{Act, sampled}
+use Rattle.history.specs.Start.{Start}
+use Rattle.history.specs.Latest.{streak, latest}
+use Rattle.history.specs.Levels.{primedAt, since, levelAt, runAt}
+use Rattle.history.specs.Told.{told}
+use Rattle.history.proofs.LatestLaws.{streak-same, latest-full}
+use Rattle.history.proofs.FilterLaws.{lineOf, line-short, line-start, filter-latest}
+
+-- A filtered line after a history.
+abbrev pub lineAt : Axis → Wire → List Act → Line
+lineAt x w h = record { level = levelAt x w h; run = runAt x w h }
+
+line-is : (x : Axis) (w : Wire) (h : List Act) → lineAt x w h ≡ lineOf (x .depth) (since x w h .level) (since x w h .raws)
+unfolding levelAt runAt
+line-is x w h = refl
+
+-- The lines of the axis that a history tells.
+pub line-told : (x : Axis) (w : Wire) (h : List Act) → line (told x h) w ≡ lineAt x w h
+unfolding line placeOf told
+line-told x A h = refl
+line-told x B h = refl
+line-told x Z h = refl
+
+-- The levels of a priming sample are taken as they are, with no run.
+pub level-prime : (x : Axis) (w : Wire) (s : Raw) (h : List Act) → primedAt x h ≡ false → levelAt x w (sampled s ∷ h) ≡ levelOf s w
+unfolding levelAt since latest
+level-prime x w s h q = rw q
+
+level-next : (x : Axis) (w : Wire) (s : Raw) (h : List Act) → primedAt x h ≡ true →
+    levelAt x w (sampled s ∷ h) ≡ latest (x .depth) (since x w h .level) (levelOf s w ∷ since x w h .raws)
+unfolding levelAt since
+level-next x w s h q = rw q
+
+pub run-prime : (x : Axis) (w : Wire) (s : Raw) (h : List Act) → primedAt x h ≡ false → runAt x w (sampled s ∷ h) ≡ 0
+unfolding runAt since streak
+run-prime x w s h q = rw q
+
+-- At depth 1 those of every sample are.
+pub level-one : (x : Axis) (w : Wire) (s : Raw) (h : List Act) → x .depth ≡ 1 → levelAt x w (sampled s ∷ h) ≡ levelOf s w
+level-one x w s h d = go (primedAt x h) refl
+  where
+    go : (b : Bool) → primedAt x h ≡ b → levelAt x w (sampled s ∷ h) ≡ levelOf s w
+    go true q = level-next x w s h q ∙ latest-full (x .depth) (since x w h .level) (levelOf s w) (since x w h .raws) (omega (arith, streak-same (levelOf s w) (since x w h .raws)))
+    go false q = level-prime x w s h q
+
+module _ (x : Axis) (start : Start x) where
+  pub deep : 0 < x .depth
+  deep = omega (arith, start .short A)
+
+  pub run-short : (w : Wire) (h : List Act) → runAt x w h < x .depth
+  run-short w h = rw (ap (λ (l : Line). l .run) (line-is x w h)) (line-short (x .depth) (since x w h .level) deep (since x w h .raws))
+
+  -- The lines before any act.
+  pub line-first : (w : Wire) → lineAt x w [] ≡ line x w
+  unfolding since
+  line-first w = line-is x w [] ∙ line-start (x .depth) (line x w .level) (line x w .run) (start .short w)
+
+  -- HEADLINE: the filter on the axis that a history tells gives the lines that the history with that sample tells.
+  pub filtered-told : (w : Wire) (s : Raw) (h : List Act) → primedAt x h ≡ true → filtered (told x h) s w ≡ lineAt x w (sampled s ∷ h)
+  unfolding filtered told since
+  filtered-told w s h q =
+      rw (line-told x w h, line-is x w h, line-is x w (sampled s ∷ h), q)
+      (filter-latest (x .depth) (since x w h .level) deep (since x w h .raws) (levelOf s w))

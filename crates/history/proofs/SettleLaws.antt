@@ -1,0 +1,127 @@
+-- The laws of a sample on a primed axis that a history tells.
+use mathlib.Core.Path.{_≡_, refl, sym, _∙_, ap}
+use mathlib.Core.Bool.{true, _&&_}
+use mathlib.Core.List.{List, [], _∷_}
+use Rattle.position.specs.Position.{inRange, wordOf, positionOf}
+use Rattle.axis.specs.declared.row.Axis.{Axis}
+use Rattle.motion.specs.Lines.{Wire, A, B, Z, placeOf, line}
+use Rattle.motion.specs.Filter.{filtered}
+use Rattle.motion.specs.Decode.{moveTo, entry, isE}
+use Rattle.motion.specs.Index.{rises}
+use Rattle.motion.specs.Count.{countedWord}
+use Rattle.motion.specs.Step.{settle, outcome}
+use Rattle.motion.specs.declared.decode.Move.{Move}
+use Rattle.motion.specs.declared.lines.Line.{Line}
+use Rattle.motion.specs.declared.lines.Raw.{Raw}
+use Rattle.history.specs.Acts.{Act, sampled}
+use Rattle.history.specs.Start.{Start}
+use Rattle.history.specs.Levels.{primedAt, levelAt, runAt, roseAt}
+use Rattle.history.specs.Entries.{codeAt, entryAt, entries}
+use Rattle.history.specs.Homing.{armedAt, homesAt, homedAt}
+use Rattle.history.specs.Tally.{onward, walked, placeTally, positionAt, doublesTally}
+use Rattle.history.specs.Index.{countedAt, indexAt}
+use Rattle.history.specs.Told.{told, answered}
+use Rattle.history.proofs.LevelsLaws.{lineAt, filtered-told}
+use Rattle.history.proofs.EntriesLaws.{entry-primed, double-entry}
+use Rattle.history.proofs.TallyLaws.{counted-next, word-next, range-next, doubles-next}
+use Rattle.history.proofs.PaceLaws.{direction-next, age-next, period-next}
+
+module _
+    (x : Axis)
+    (start : Start x)
+    (s : Raw)
+    (h : List Act)
+    (value : inRange (placeTally x h .value .position) ≡ true)
+    (q : primedAt x h ≡ true) where
+  lines : Wire → Line
+  lines w = lineAt x w (sampled s ∷ h)
+
+  move : Move
+  move = entry (x .kind) (codeAt x h) (codeAt x (sampled s ∷ h))
+
+  move-is : moveTo (told x h) lines ≡ move
+  unfolding moveTo line placeOf told codeAt lines move
+  move-is = refl
+
+  rise-is : rises (told x h) lines ≡ roseAt x s h
+  unfolding rises line placeOf told lines roseAt
+  rise-is = rw q
+
+  entry-is : entryAt x s h ≡ move ∷ []
+  unfolding move
+  entry-is = entry-primed x s h q
+
+  word-is : settle (told x h) lines .word ≡ told x (sampled s ∷ h) .word
+  unfolding settle told placeTally homesAt
+  word-is = rw (move-is, rise-is, entry-is) (word-next (placeTally x h) value move (armedAt x h && roseAt x s h))
+
+  armed-is : settle (told x h) lines .armed ≡ told x (sampled s ∷ h) .armed
+  unfolding settle told armedAt
+  armed-is = rw rise-is
+
+  homed-is : settle (told x h) lines .homed ≡ told x (sampled s ∷ h) .homed
+  unfolding settle told homedAt homesAt
+  homed-is = rw rise-is
+
+  range-is : settle (told x h) lines .range ≡ told x (sampled s ∷ h) .range
+  unfolding settle told placeTally homesAt
+  range-is = rw (move-is, rise-is, entry-is) (range-next (placeTally x h) value move (armedAt x h && roseAt x s h))
+
+  counted-is : positionOf (countedWord move (wordOf (positionAt x h))) ≡ countedAt x s h
+  unfolding countedAt
+  counted-is =
+      counted-next (placeTally x h) value move ∙ ap (λ (ms : List Move). walked (onward ms (placeTally x h))) (sym entry-is)
+
+  index-is : settle (told x h) lines .index ≡ told x (sampled s ∷ h) .index
+  unfolding settle told indexAt
+  index-is = rw (move-is, rise-is, counted-is)
+
+  doubles-is : settle (told x h) lines .doubles ≡ told x (sampled s ∷ h) .doubles
+  unfolding settle told doublesTally
+  doubles-is = rw (move-is, entry-is) (doubles-next (doublesTally x h) move)
+
+  direction-is : settle (told x h) lines .direction ≡ told x (sampled s ∷ h) .direction
+  unfolding settle told entries
+  direction-is = rw (move-is, entry-is) (direction-next x (entries x h) move)
+
+  age-is : settle (told x h) lines .age ≡ told x (sampled s ∷ h) .age
+  unfolding settle told entries
+  age-is = rw (move-is, entry-is) (age-next x (entries x h) move)
+
+  period-is : settle (told x h) lines .period ≡ told x (sampled s ∷ h) .period
+  unfolding settle told entries
+  period-is = rw (move-is, entry-is) (period-next x (entries x h) move)
+
+  told-settles : settle (told x h) lines ≡ told x (sampled s ∷ h)
+  unfolding settle told primedAt lines
+  told-settles = λ i. record {
+    word = word-is i;
+    kind = x .kind;
+    depth = x .depth;
+    width = x .width;
+    primed = true;
+    armed = armed-is i;
+    homed = homed-is i;
+    range = range-is i;
+    index = index-is i;
+    levels = levelAt x A (sampled s ∷ h) ∷ levelAt x B (sampled s ∷ h) ∷ levelAt x Z (sampled s ∷ h) ∷ [];
+    runs = runAt x A (sampled s ∷ h) ∷ runAt x B (sampled s ∷ h) ∷ runAt x Z (sampled s ∷ h) ∷ [];
+    doubles = doubles-is i;
+    direction = direction-is i;
+    age = age-is i;
+    period = period-is i;
+    turn = x .turn;
+  }
+
+  lines-are : filtered (told x h) s ≡ lines
+  unfolding lines
+  lines-are = λ i w. filtered-told x start w s h q i
+
+  -- HEADLINE: a sample on a primed axis does what the history with that sample tells, and the bits of the answer are E and the index rise.
+  pub settles : outcome true (told x h) s ≡ answered x s h
+  unfolding outcome answered
+  settles = λ i. record {
+    axis = (ap (λ (n : Wire → Line). settle (told x h) n) lines-are ∙ told-settles) i;
+    double = (ap (λ (n : Wire → Line). isE (moveTo (told x h) n)) lines-are ∙ ap isE move-is ∙ sym (double-entry x s h move entry-is)) i;
+    index = (ap (λ (n : Wire → Line). rises (told x h) n) lines-are ∙ rise-is) i;
+  }

@@ -1,0 +1,124 @@
+-- The axis after a history is the axis that the history tells.
+use mathlib.Core.Path.{_≡_, refl, sym, _∙_, ap}
+use mathlib.Core.Bool.{Bool, true, false, cond, or-false}
+use mathlib.Core.List.{List, [], _∷_}
+use Prim.Native.Nat.{_+_, _-_, _^_, min}
+use native.Mathlib.Omega.{arith}
+use lib.IntN.{pos}
+use lib.ListN.{getD, length}
+use Rattle.position.specs.Position.{inRange}
+use Rattle.position.proofs.PositionLaws.{position-in-range, word-position}
+use Rattle.axis.specs.declared.row.Axis.{Axis}
+use Rattle.motion.specs.Lines.{A, B, Z, placeOf, line}
+use Rattle.motion.specs.Step.{outcome, stepAxis}
+use Rattle.motion.specs.declared.lines.Raw.{Raw}
+use Rattle.motion.specs.declared.step.Stepped.{Stepped}
+use Rattle.history.specs.Acts.{Act, sampled, preset, arm, acknowledge, act, after, Legal}
+use Rattle.calls.specs.Change.{changed}
+use Rattle.history.specs.Start.{Start}
+use Rattle.history.specs.Levels.{primedAt, since, levelAt, runAt}
+use Rattle.history.specs.Entries.{entryAt, entries, numberOfE}
+use Rattle.history.specs.Homing.{armedAt, homesAt, homedAt}
+use Rattle.history.specs.Tally.{given, onward, clear, walk, heldIn, placeTally, positionAt, doublesTally}
+use Rattle.history.specs.Pace.{directionOf, gapOf, ageOf, periodOf}
+use Rattle.history.specs.Index.{indexAt}
+use Rattle.history.specs.Told.{told, answered}
+use Rattle.history.proofs.LevelsLaws.{line-first}
+use Rattle.history.proofs.TallyLaws.{walk-in-range}
+use Rattle.history.proofs.PrimeLaws.{primes}
+use Rattle.history.proofs.SettleLaws.{settles}
+
+-- A list of three is its three elements.
+three-of : {T : Type 0} (l : List T) (d : T) → length l ≡ 3 → getD l 0 d ∷ getD l 1 d ∷ getD l 2 d ∷ [] ≡ l
+three-of (a ∷ b ∷ c ∷ []) d e = refl
+three-of [] d e = absurd (let z : ⊥ = omega arith in z)
+three-of (a ∷ []) d e = absurd (let z : ⊥ = omega arith in z)
+three-of (a ∷ b ∷ []) d e = absurd (let z : ⊥ = omega arith in z)
+three-of (a ∷ b ∷ c ∷ o ∷ l) d e = absurd (let z : ⊥ = omega arith in z)
+
+module _ (x : Axis) (start : Start x) where
+  -- ---- before any act
+
+  levels-first : levelAt x A [] ∷ levelAt x B [] ∷ levelAt x Z [] ∷ [] ≡ x .levels
+  unfolding line placeOf
+  levels-first =
+      (λ i. line-first x start A i .level ∷ line-first x start B i .level ∷ line-first x start Z i .level ∷ [])
+      ∙ three-of (x .levels) false (start .levels)
+
+  runs-first : runAt x A [] ∷ runAt x B [] ∷ runAt x Z [] ∷ [] ≡ x .runs
+  unfolding line placeOf
+  runs-first =
+      (λ i. line-first x start A i .run ∷ line-first x start B i .run ∷ line-first x start Z i .run ∷ [])
+      ∙ three-of (x .runs) 0 (start .runs)
+
+  doubles-first : min 65535 (x .doubles + 0) ≡ x .doubles
+  doubles-first = omega (arith, start .doubles)
+
+  age-first : min (2 ^ 32 - 1) (x .age) ≡ x .age
+  age-first = omega (arith, start .age)
+
+  told-first : told x [] ≡ x
+  unfolding told primedAt armedAt homedAt indexAt placeTally walk heldIn doublesTally numberOfE entries directionOf gapOf ageOf periodOf
+  told-first = λ i. record {
+    word = word-position (x .word) (start .low) (start .high) i;
+    kind = x .kind;
+    depth = x .depth;
+    width = x .width;
+    primed = x .primed;
+    armed = x .armed;
+    homed = x .homed;
+    range = or-false (x .range) i;
+    index = x .index;
+    levels = levels-first i;
+    runs = runs-first i;
+    doubles = doubles-first i;
+    direction = x .direction;
+    age = age-first i;
+    period = x .period;
+    turn = x .turn;
+  }
+
+  -- ---- the position stays in the range
+
+  value-in-range : (h : List Act) → Legal h → inRange (placeTally x h .value .position) ≡ true
+  unfolding placeTally inRange
+  value-in-range [] l = position-in-range (x .word) (start .low) (start .high)
+  value-in-range (sampled s ∷ h) l = go (homesAt x s h) (value-in-range h (l .1))
+    where
+      go : (b : Bool) → inRange (placeTally x h .value .position) ≡ true →
+          inRange (cond b (given (clear (pos 0))) (onward (entryAt x s h) (placeTally x h)) .value .position) ≡ true
+      go true e = refl
+      go false e = e
+  value-in-range (preset p ∷ h) l = l .0
+  value-in-range (arm ∷ h) l = value-in-range h (l .1)
+  value-in-range (acknowledge ∷ h) l = value-in-range h (l .1)
+
+  pub position-in : (h : List Act) → Legal h → inRange (positionAt x h) ≡ true
+  position-in h l = walk-in-range (placeTally x h .value .position) (value-in-range h l) (placeTally x h .moves)
+
+  -- ---- the acts
+
+  sample-told : (s : Raw) (h : List Act) → Legal h → stepAxis (told x h) s ≡ answered x s h
+  unfolding stepAxis told
+  sample-told s h l = go (primedAt x h) refl
+    where
+      go : (b : Bool) → primedAt x h ≡ b → outcome b (told x h) s ≡ answered x s h
+      go true q = settles x start s h (value-in-range h l) q
+      go false q = primes x s h q
+
+  act-told : (a : Act) (h : List Act) → Legal (a ∷ h) → act (told x h) a ≡ told x (a ∷ h)
+  unfolding act changed answered told primedAt since levelAt runAt armedAt homedAt indexAt placeTally walk heldIn doublesTally numberOfE entries
+  act-told (sampled s) h l = ap (λ (o : Stepped). o .axis) (sample-told s h (l .1))
+  act-told (preset p) h l = refl
+  act-told arm h l = refl
+  act-told acknowledge h l = refl
+
+  -- HEADLINE: the axis after a history is, in every field, the one that the history tells.
+  pub whole-history : (h : List Act) → Legal h → after x h ≡ told x h
+  unfolding after
+  whole-history [] l = sym told-first
+  whole-history (a ∷ h) l = ap (λ (y : Axis). act y a) (whole-history h (l .1)) ∙ act-told a h l
+
+  -- HEADLINE: so is a sample's answer.
+  pub sample-history : (s : Raw) (h : List Act) → Legal h → stepAxis (after x h) s ≡ answered x s h
+  sample-history s h l = ap (λ (y : Axis). stepAxis y s) (whole-history h l) ∙ sample-told s h l

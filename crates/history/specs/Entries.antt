@@ -1,0 +1,37 @@
+-- The entries of a history h that started from the axis x: document 01, "A port sample", Decode.
+use Prim.Native.Nat.{ℕ, _+_}
+use mathlib.Core.Bool.{Bool, cond}
+use mathlib.Core.List.{List, [], _∷_, _++_}
+use lib.Dec.{eqb}
+use Rattle.axis.specs.declared.row.Axis.{Axis}
+use Rattle.motion.specs.Lines.{A, B}
+use Rattle.motion.specs.Decode.{code, entry, isE}
+use Rattle.motion.specs.declared.decode.Move.{Move}
+use Rattle.motion.specs.declared.lines.Raw.{Raw}
+use Rattle.history.specs.Acts.{Act, sampled, preset, arm, acknowledge}
+use Rattle.history.specs.Levels.{primedAt, levelAt}
+
+-- The code of the filtered levels.
+unfoldable pub codeAt : Axis → List Act → ℕ
+codeAt x h = code (levelAt x A h) (levelAt x B h)
+
+-- The mode's entry of the sample s after h, from the code before it to the code after it; none where the sample primes.
+unfoldable pub entryAt : Axis → Raw → List Act → List Move
+entryAt x s h = cond (primedAt x h) (entry (x .kind) (codeAt x h) (codeAt x (sampled s ∷ h)) ∷ []) []
+
+-- All entries of a history, newest first.
+unfoldable pub entries : Axis → List Act → List Move
+entries x [] = []
+entries x (sampled s ∷ h) = entryAt x s h ++ entries x h
+entries x (preset p ∷ h) = entries x h
+entries x (arm ∷ h) = entries x h
+entries x (acknowledge ∷ h) = entries x h
+
+-- How many of some entries are E.
+unfoldable pub numberOfE : List Move → ℕ
+numberOfE [] = 0
+numberOfE (m ∷ ms) = numberOfE ms + cond (isE m) 1 0
+
+-- Whether the entry of the sample s after h is E.
+unfoldable pub doubleAt : Axis → Raw → List Act → Bool
+doubleAt x s h = eqb (numberOfE (entryAt x s h)) 1

@@ -1,0 +1,54 @@
+-- What can happen to one axis, and what it makes of the axis's row: document 01, "A port sample" and "Calls that name one axis".
+use Prim.Native.Nat.{ℕ}
+use mathlib.Core.List.{List, [], _∷_}
+use lib.IntN.{ℤ}
+use Rattle.axis.specs.declared.row.Row.{Row}
+use Rattle.motion.specs.Step.{stepRow}
+use Rattle.calls.specs.Calls.{setupRow, eraseRow, presetRow, armRow, acknowledgeRow, readRow, restoreRow}
+use Rattle.calls.specs.declared.answer.Changed.{Changed}
+use Rattle.calls.specs.declared.answer.Changed.the-variants.{To, Kept}
+
+-- A call that names the axis, with any arguments: setup by kind, depth, width and counts per turn, save by what the buffer holds, restore by the
+-- record's bytes.
+pub data Op : Type 0 where
+  setup : ℕ → ℕ → ℕ → ℕ → Op
+  erase : Op
+  preset : ℤ → Op
+  arm acknowledge view : Op
+  reading : ℕ → Op
+  speed : ℕ → Op
+  save : List ℕ → Op
+  restore : List ℕ → Op
+
+-- The axis's four bits of a port sample, or a call that names it.
+pub data Event : Type 0 where
+  bits : ℕ → Event
+  asked : Op → Event
+
+-- A row after a call's rule: the new row, or the row as it was where the call is refused.
+abbrev pub kept : Row → Changed → Row
+kept r (To s) = s
+kept r (Kept e) = r
+
+-- A row after a call.
+unfoldable pub rowAfter : Row → Op → Row
+rowAfter r (setup kind depth width turn) = kept r (setupRow kind depth width turn r)
+rowAfter r erase = kept r (eraseRow r)
+rowAfter r (preset p) = kept r (presetRow p r)
+rowAfter r arm = kept r (armRow r)
+rowAfter r acknowledge = kept r (acknowledgeRow r)
+rowAfter r view = r
+rowAfter r (reading x) = kept r (readRow x r)
+rowAfter r (speed rate) = r
+rowAfter r (save buffer) = r
+rowAfter r (restore bytes) = kept r (restoreRow bytes r)
+
+-- A row after an event.
+unfoldable pub rowNext : Row → Event → Row
+rowNext r (bits n) = stepRow r n .row
+rowNext r (asked o) = rowAfter r o
+
+-- A row after events, newest first.
+unfoldable pub rowSince : Row → List Event → Row
+rowSince r [] = r
+rowSince r (e ∷ h) = rowNext (rowSince r h) e

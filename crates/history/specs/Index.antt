@@ -1,0 +1,25 @@
+-- The index check in a history h that started from the axis x: document 01, "A port sample", Index, and "Calls that name one axis", Acknowledge.
+use mathlib.Core.Bool.{Bool, false, not, _&&_, _||_}
+use mathlib.Core.List.{List, [], _∷_}
+use lib.IntN.{ℤ}
+use Rattle.axis.specs.declared.row.Axis.{Axis}
+use Rattle.motion.specs.Index.{offTurn}
+use Rattle.motion.specs.declared.lines.Raw.{Raw}
+use Rattle.history.specs.Acts.{Act, sampled, preset, arm, acknowledge}
+use Rattle.history.specs.Levels.{roseAt}
+use Rattle.history.specs.Entries.{entryAt}
+use Rattle.history.specs.Homing.{armedAt, homedAt}
+use Rattle.history.specs.Tally.{onward, walked, placeTally}
+
+-- The position after the count of the sample s after h.
+unfoldable pub countedAt : Axis → Raw → List Act → ℤ
+countedAt x s h = walked (onward (entryAt x s h) (placeTally x h))
+
+-- INDEX: from an index rise, on an axis that is homed and not armed, where the position is no multiple of the counts per turn, to an acknowledge.
+unfoldable pub indexAt : Axis → List Act → Bool
+indexAt x [] = x .index
+indexAt x (sampled s ∷ h) =
+    indexAt x h || (roseAt x s h && not (armedAt x h) && homedAt x h && offTurn (x .turn) (countedAt x s h))
+indexAt x (preset p ∷ h) = indexAt x h
+indexAt x (arm ∷ h) = indexAt x h
+indexAt x (acknowledge ∷ h) = false

@@ -1,0 +1,118 @@
+-- What the events of one axis tell, from any four words: a new phase begins with every setup, erase and restore that is accepted, and within a
+-- phase the configuration stays. Events have the newest first.
+use Prim.Native.Nat.{ℕ}
+use mathlib.Core.Bool.{Bool, true, false, cond}
+use mathlib.Core.List.{List, [], _∷_}
+use lib.IntN.{ℤ}
+use Rattle.position.specs.Position.{inRange, wordOf, positionOf}
+use Rattle.reckon.specs.Widening.{widened}
+use Rattle.reckon.specs.declared.Reckoned.{Reckoned}
+use Rattle.reckon.specs.declared.Reckoned.the-variants.{Number, Refused as Unreckoned}
+use Rattle.axis.specs.Config.{goodConfig}
+use Rattle.axis.specs.Row.{axisOf, rowOf, emptyRow, fresh, freshAt}
+use Rattle.axis.specs.Sound.{statusOf}
+use Rattle.axis.specs.declared.row.Row.{Row}
+use Rattle.axis.specs.declared.sound.Status.{Status}
+use Rattle.axis.specs.declared.sound.Status.the-variants.{Empty, Sampled, Counter, Broken}
+use Rattle.motion.specs.Lines.{rawOf}
+use Rattle.record.specs.Record.{readAs}
+use Rattle.record.specs.declared.answer.Read.{Read}
+use Rattle.record.specs.declared.answer.Read.the-variants.{Accepted, Refused as Unread}
+use Rattle.calls.specs.Change.{readAxis}
+use Rattle.history.specs.Acts.{Act, sampled}
+use Rattle.history.specs.Acts.{preset as placed, arm as armed, acknowledge as acknowledged}
+use Rattle.history.specs.Entries.{doubleAt}
+use Rattle.history.specs.Levels.{roseAt}
+use Rattle.history.specs.Told.{told}
+use Rattle.history.specs.Event.{Op, Event, setup, erase, preset, arm, acknowledge, view, reading, speed, save, restore, bits, asked}
+
+-- A phase: the row that it began with, what has happened to a sampled axis since, newest first, and where a counter is.
+pub record Phase : Type 0 where
+  pub start : Row
+  pub acts : List Act
+  pub place : ℤ
+
+-- A phase that begins with a row.
+abbrev pub begun : Row → Phase
+begun r = record { start = r; acts = []; place = positionOf (r .w0) }
+
+-- A phase in which one more thing has happened to a sampled axis.
+abbrev pub acted : Phase → Act → Phase
+acted p a = record { start = p .start; acts = a ∷ p .acts; place = p .place }
+
+-- A phase in which a counter has got to a position.
+abbrev pub moved : Phase → ℤ → Phase
+moved p z = record { start = p .start; acts = p .acts; place = z }
+
+-- What happens to a sampled row, to a counter, and to no other: an empty or a broken row stays until a phase begins.
+abbrev pub bySort : Phase → Phase → Status → Phase → Phase
+bySort sampledOne counterOne Sampled p = sampledOne
+bySort sampledOne counterOne Counter p = counterOne
+bySort sampledOne counterOne Empty p = p
+bySort sampledOne counterOne Broken p = p
+
+-- A reading moves a counter where it is accepted.
+abbrev pub readTo : Phase → Reckoned → Phase
+readTo p (Number z) = moved p z
+readTo p (Unreckoned e) = p
+
+-- A record begins a phase where it is accepted.
+abbrev pub restoredTo : Phase → Read → Phase
+restoredTo p (Accepted s) = begun (rowOf (freshAt (s .config) (wordOf (s .position))))
+restoredTo p (Unread e) = p
+
+-- The phase after a call; one that is refused, or only looks, changes nothing.
+unfoldable pub afterCall : Phase → Op → Phase
+afterCall p (setup kind depth width turn) =
+    cond (goodConfig kind depth width turn) (begun (rowOf (fresh (record { kind = kind; depth = depth; width = width; turn = turn })))) p
+afterCall p erase = begun emptyRow
+afterCall p (preset z) = cond (inRange z) (bySort (acted p (placed z)) (moved p z) (statusOf (p .start)) p) p
+afterCall p arm = bySort (acted p armed) p (statusOf (p .start)) p
+afterCall p acknowledge = bySort (acted p acknowledged) p (statusOf (p .start)) p
+afterCall p view = p
+afterCall p (reading x) = bySort p (readTo p (widened (axisOf (p .start) .width) (p .place) x)) (statusOf (p .start)) p
+afterCall p (speed rate) = p
+afterCall p (save buffer) = p
+afterCall p (restore bytes) = restoredTo p (readAs bytes)
+
+-- The phase after an event.
+unfoldable pub afterEvent : Phase → Event → Phase
+afterEvent p (bits n) = bySort (acted p (sampled (rawOf n))) p (statusOf (p .start)) p
+afterEvent p (asked o) = afterCall p o
+
+-- The phase that a row is in after events.
+unfoldable pub phaseOf : Row → List Event → Phase
+phaseOf r [] = begun r
+phaseOf r (e ∷ h) = afterEvent (phaseOf r h) e
+
+-- The row that a phase tells, by what it began with.
+unfoldable pub toldBy : Status → Phase → Row
+toldBy Sampled p = rowOf (told (axisOf (p .start)) (p .acts))
+toldBy Counter p = rowOf (readAxis (p .place) (axisOf (p .start)))
+toldBy Empty p = p .start
+toldBy Broken p = p .start
+
+-- The row that a phase tells.
+unfoldable pub toldRow : Phase → Row
+toldRow p = toldBy (statusOf (p .start)) p
+
+-- The bits of the answer: double step, index rise, broken row.
+pub record Marks : Type 0 where
+  pub double : Bool
+  pub index : Bool
+  pub broken : Bool
+
+-- The bits that a phase tells of a sample: E and the index rise of a sampled axis, broken for a broken row, none for any other.
+unfoldable pub markedBy : Status → Phase → ℕ → Marks
+markedBy Sampled p n = record {
+  double = doubleAt (axisOf (p .start)) (rawOf n) (p .acts);
+  index = roseAt (axisOf (p .start)) (rawOf n) (p .acts);
+  broken = false;
+}
+markedBy Counter p n = record { double = false; index = false; broken = false }
+markedBy Empty p n = record { double = false; index = false; broken = false }
+markedBy Broken p n = record { double = false; index = false; broken = true }
+
+-- The bits that a phase tells of a sample.
+unfoldable pub toldMarks : Phase → ℕ → Marks
+toldMarks p n = markedBy (statusOf (p .start)) p n

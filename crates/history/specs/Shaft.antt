@@ -1,0 +1,58 @@
+-- A shaft as an encoder shows it: document 01, "A port sample", Count. Angles are whole quarter steps.
+use Prim.Native.Nat.{ℕ, _≤_}
+use mathlib.Core.Path.{_≡_}
+use mathlib.Core.Bool.{Bool, false}
+use mathlib.Core.List.{List, [], _∷_, _++_}
+use lib.ListN.{getD}
+use lib.IntN.{ℤ, natAbs, _-ℤ_}
+use Rattle.integers.specs.Integer.{modZ}
+use Rattle.fields.specs.Field.{flagOf}
+use Rattle.axis.specs.declared.row.Axis.{Axis}
+use Rattle.motion.specs.declared.lines.Raw.{Raw}
+use Rattle.history.specs.Acts.{Act, sampled}
+use Rattle.history.specs.Entries.{doubleAt}
+use Rattle.history.specs.Homing.{homesAt}
+
+-- The codes of one cycle forward.
+unfoldable pub cycle : List ℕ
+cycle = 0 ∷ 1 ∷ 3 ∷ 2 ∷ []
+
+-- The code at an angle.
+unfoldable pub shown : ℤ → ℕ
+shown angle = getD cycle (modZ angle 4) 0
+
+-- A sample of the shaft: the angle, and any level of Z.
+pub record ShaftSample : Type 0 where
+  pub angle : ℤ
+  pub z : Bool
+
+-- Its raw levels.
+unfoldable pub rawAt : ShaftSample → Raw
+rawAt t = record { a = flagOf 0 (shown (t .angle)); b = flagOf 1 (shown (t .angle)); z = t .z }
+
+-- The history of a shaft with no call between: a first sample, as the one that primes is, and later ones, newest first.
+unfoldable pub watched : ShaftSample → List ShaftSample → List Act
+watched first [] = sampled (rawAt first) ∷ []
+watched first (t ∷ ts) = sampled (rawAt t) ∷ watched first ts
+
+-- The angle at the newest sample.
+unfoldable pub angleAt : ShaftSample → List ShaftSample → ℤ
+angleAt first [] = first .angle
+angleAt first (t ∷ ts) = t .angle
+
+-- How far the shaft moved, net, from the newest sample to the sample t.
+unfoldable pub moved : ShaftSample → List ShaftSample → ShaftSample → ℕ
+moved first ts t = natAbs (t .angle -ℤ angleAt first ts)
+
+-- No move of the stretch `new`, which followed on `old`, was above two quarter steps.
+abbrev pub Gentle : ShaftSample → List ShaftSample → List ShaftSample → Type 0
+Gentle first old [] = Unit {0}
+Gentle first old (t ∷ new) = (moved first (new ++ old) t ≤ 2) × Gentle first old new
+
+-- No sample of that stretch had E or homed.
+abbrev pub Plain : Axis → ShaftSample → List ShaftSample → List ShaftSample → Type 0
+Plain x first old [] = Unit {0}
+Plain x first old (t ∷ new) =
+    (doubleAt x (rawAt t) (watched first (new ++ old)) ≡ false)
+    × (homesAt x (rawAt t) (watched first (new ++ old)) ≡ false)
+    × Plain x first old new

@@ -1,0 +1,2 @@
+pub mod ReadingsHold
+pub mod OneOutcome

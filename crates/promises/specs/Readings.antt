@@ -1,0 +1,67 @@
+-- The readings of document 01 that are marked P, in one table: "Readings to hold it against".
+use Prim.Native.Nat.{ℕ}
+use mathlib.Core.Bool.{Bool, true, false}
+use mathlib.Core.List.{List, [], _∷_}
+use lib.IntN.{ℤ, pos, negsuc}
+use Rattle.position.specs.Position.{positionOf}
+use Rattle.refusal.specs.declared.Refusal.the-variants.{Half}
+use Rattle.reckon.specs.Widening.{widened}
+use Rattle.reckon.specs.Speed.{speedByCount}
+use Rattle.reckon.specs.declared.Reckoned.{Reckoned}
+use Rattle.reckon.specs.declared.Reckoned.the-variants.{Number, Refused}
+use Rattle.fields.specs.Field.{fieldOf, flagOf}
+use Rattle.axis.specs.Kind.{X1, X2, X4}
+use Rattle.axis.specs.Row.{rowOf, fresh}
+use Rattle.axis.specs.declared.row.Row.{Row}
+use Rattle.motion.specs.Step.{stepRow}
+
+-- The row that a setup of a kind and a depth makes.
+unfoldable pub setUp : ℕ → ℕ → Row
+setUp kind depth = rowOf (fresh (record { kind = kind; depth = depth; width = 0; turn = 0 }))
+
+-- A row after samples, oldest first.
+unfoldable pub sampledBy : Row → List ℕ → Row
+sampledBy r [] = r
+sampledBy r (n ∷ ns) = sampledBy (stepRow r n .row) ns
+
+-- What a reading shows: a row's position and doubles, its filtered A and position, or what was reckoned.
+pub data Shown : Type 0 where
+  counts : ℤ → ℕ → Shown
+  level : Bool → ℤ → Shown
+  both : Shown → Shown → Shown
+  reckons : Reckoned → Shown
+
+-- The position and the doubles of a row.
+unfoldable pub counted : Row → Shown
+counted r = counts (positionOf (r .w0)) (fieldOf 32 16 (r .w1))
+
+-- The filtered A and the position of a row.
+unfoldable pub levelled : Row → Shown
+levelled r = level (flagOf 19 (r .w1)) (positionOf (r .w0))
+
+-- A reading: what the definitions give, and what document 01 states.
+pub record Reading : Type 0 where
+  pub gives : Shown
+  pub stated : Shown
+
+infix 20 _shows_
+unfoldable pub _shows_ : Shown → Shown → Reading
+a shows b = record { gives = a; stated = b }
+
+-- The twelve readings, in document 01's order.
+unfoldable pub readings : List Reading
+readings =
+    (counted (sampledBy (setUp X4 1) (0 ∷ 1 ∷ 3 ∷ 2 ∷ 0 ∷ [])) shows counts (pos 4) 0)
+    ∷ (counted (sampledBy (setUp X2 1) (0 ∷ 1 ∷ 3 ∷ 2 ∷ 0 ∷ [])) shows counts (pos 2) 0)
+    ∷ (counted (sampledBy (setUp X1 1) (0 ∷ 1 ∷ 3 ∷ 2 ∷ 0 ∷ [])) shows counts (pos 1) 0)
+    ∷ (counted (sampledBy (setUp X4 1) (0 ∷ 3 ∷ 2 ∷ [])) shows counts (pos 1) 1)
+    ∷ (both (levelled (sampledBy (setUp X4 3) (0 ∷ 1 ∷ 1 ∷ 0 ∷ 1 ∷ 1 ∷ 1 ∷ []))) (levelled (sampledBy (setUp X4 3) (0 ∷ 1 ∷ 1 ∷ 0 ∷ 1 ∷ 1 ∷ [])))
+    shows both (level true (pos 1)) (level false (pos 0)))
+    ∷ (reckons (widened 8 (pos 250) 3) shows reckons (Number (pos 259)))
+    ∷ (reckons (widened 8 (pos 250) 121) shows reckons (Number (pos 377)))
+    ∷ (reckons (widened 8 (pos 250) 122) shows reckons (Refused Half))
+    ∷ (reckons (widened 8 (pos 250) 123) shows reckons (Number (pos 123)))
+    ∷ (reckons (widened 8 (negsuc 0) 0) shows reckons (Number (pos 0)))
+    ∷ (reckons (speedByCount (pos 1) 3 1) shows reckons (Number (pos 333)))
+    ∷ (reckons (speedByCount (negsuc 0) 2000 1) shows reckons (Number (negsuc 0)))
+    ∷ []

@@ -1,0 +1,60 @@
+-- What the calls that name one axis promise: document 01, "Calls that name one axis".
+use Prim.Native.Nat.{ℕ}
+use mathlib.Core.Path.{_≡_}
+use mathlib.Core.List.{List}
+use lib.ListN.{length}
+use lib.IntN.{ℤ}
+use Rattle.reckon.specs.declared.Reckoned.{Reckoned}
+use Rattle.reckon.specs.declared.Reckoned.the-variants.{Refused as Unreckoned}
+use Rattle.record.specs.declared.answer.Written.{Written}
+use Rattle.record.specs.declared.answer.Written.the-variants.{Refused as Unwritten}
+use Rattle.axis.specs.declared.row.Row.{Row}
+use Rattle.calls.specs.Answer.{doneOf}
+use Rattle.calls.specs.Calls.{viewRow, readingRow, readRow, speedRow, saveRow, savedIn}
+use Rattle.calls.specs.declared.answer.Changed.{Changed}
+use Rattle.calls.specs.declared.answer.Changed.the-variants.{To, Kept}
+use Rattle.calls.specs.declared.answer.Done.{Done}
+use Rattle.calls.specs.declared.answer.Viewed.{Viewed}
+use Rattle.calls.specs.declared.answer.Viewed.the-variants.{Refused as Unseen}
+use Rattle.table.specs.Table.{setRow}
+use Rattle.table.specs.Located.{located, onFound}
+
+-- What a call makes of the named row, by its rule for one row.
+abbrev pub ruled : (Row → Changed) → List ℕ → ℕ → Changed
+ruled rule t k = onFound Kept rule (located t k)
+
+-- The table after such a call: the named row is replaced, or every word stays.
+unfoldable pub tableAfter : List ℕ → ℕ → Changed → List ℕ
+tableAfter t k (To r) = setRow t k r
+tableAfter t k (Kept e) = t
+
+-- What setup, erase, preset, arm, acknowledge and restore promise: t before, u after, and the answer.
+pub record Makes (rule : Row → Changed) (t : List ℕ) (k : ℕ) (u : List ℕ) (a : Done) : Type 0 where
+  pub answer : a ≡ doneOf (ruled rule t k)
+  pub table : u ≡ tableAfter t k (ruled rule t k)
+
+-- What a view answers.
+abbrev pub viewedIn : List ℕ → ℕ → Viewed
+viewedIn t k = onFound Unseen viewRow (located t k)
+
+-- What a reading answers.
+abbrev pub readIn : ℕ → List ℕ → ℕ → Reckoned
+readIn x t k = onFound Unreckoned (readingRow x) (located t k)
+
+-- What a reading promises: the position that is stored is the one answered.
+pub record Reads (x : ℕ) (t : List ℕ) (k : ℕ) (u : List ℕ) (a : Reckoned) : Type 0 where
+  pub answer : a ≡ readIn x t k
+  pub table : u ≡ tableAfter t k (ruled (readRow x) t k)
+
+-- What a speed by period answers.
+abbrev pub speedIn : ℕ → List ℕ → ℕ → Reckoned
+speedIn rate t k = onFound Unreckoned (speedRow rate) (located t k)
+
+-- What a save answers, by the room in the buffer.
+abbrev pub saveIn : ℕ → List ℕ → ℕ → Written
+saveIn room t k = onFound Unwritten (saveRow room) (located t k)
+
+-- What a save promises: b before, d after, and the answer; the table is only read.
+pub record Saves (t : List ℕ) (k : ℕ) (b d : List ℕ) (a : Written) : Type 0 where
+  pub answer : a ≡ saveIn (length b) t k
+  pub buffer : d ≡ onFound (λ _. b) (savedIn b) (located t k)

@@ -1,0 +1,4 @@
+pub mod Table
+pub mod Port
+pub mod Located
+pub mod Call

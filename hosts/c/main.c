@@ -1,0 +1,83 @@
+/* The C host's check: document 01's readings and edge values, through the header that C programs use. */
+#include <stdint.h>
+#include <stdio.h>
+#include "ubrenchip.h"
+
+static int checks, wrong;
+
+static void expect(const char *what, ubrenchip_answer got, uint32_t refusal, uint32_t found, int64_t value)
+{
+    checks++;
+    if (got.refusal == refusal && got.found == found && got.value == value)
+        return;
+    wrong++;
+    printf("WRONG: %s: refusal %u, found %u, value %lld; it should be %u, %u, %lld\n", what, (unsigned)got.refusal,
+           (unsigned)got.found, (long long)got.value, (unsigned)refusal, (unsigned)found, (long long)value);
+}
+
+#define TOP INT64_C(4611686018427387903) /* 2^62 - 1 */
+#ifndef INT64_C
+#define INT64_C(n) n##LL
+#endif
+
+static void widening(void)
+{
+    expect("width 8, 250, reading 3", ubrenchip_widen(8, 250, 3), UBRENCHIP_DONE, 0, 259);
+    expect("width 8, 250, reading 121", ubrenchip_widen(8, 250, 121), UBRENCHIP_DONE, 0, 377);
+    expect("width 8, 250, reading 122", ubrenchip_widen(8, 250, 122), UBRENCHIP_HALF, 0, 0);
+    expect("width 8, 250, reading 123", ubrenchip_widen(8, 250, 123), UBRENCHIP_DONE, 0, 123);
+    expect("width 8, -1, reading 0", ubrenchip_widen(8, -1, 0), UBRENCHIP_DONE, 0, 0);
+    expect("width 8, 250, reading 256", ubrenchip_widen(8, 250, 256), UBRENCHIP_VALUE, 0, 0);
+    expect("width 8, 0, reading 255", ubrenchip_widen(8, 0, 255), UBRENCHIP_DONE, 0, -1);
+    expect("width 8, -256, reading 127", ubrenchip_widen(8, -256, 127), UBRENCHIP_DONE, 0, -129);
+    expect("width 2, -3, reading 1", ubrenchip_widen(2, -3, 1), UBRENCHIP_DONE, 0, -3);
+    expect("width 2, -3, reading 3", ubrenchip_widen(2, -3, 3), UBRENCHIP_HALF, 0, 0);
+    expect("width 32, 0, reading 2^31 - 1", ubrenchip_widen(32, 0, 2147483647), UBRENCHIP_DONE, 0, 2147483647);
+    expect("width 32, 0, reading 2^31", ubrenchip_widen(32, 0, 2147483648), UBRENCHIP_HALF, 0, 0);
+    expect("width 32, 0, reading 2^31 + 1", ubrenchip_widen(32, 0, 2147483649), UBRENCHIP_DONE, 0, -2147483647);
+    expect("width 1", ubrenchip_widen(1, 0, 0), UBRENCHIP_VALUE, 0, 0);
+    expect("width 33", ubrenchip_widen(33, 0, 0), UBRENCHIP_VALUE, 0, 0);
+    expect("width 2^64 - 1", ubrenchip_widen(UINT64_MAX, 0, 0), UBRENCHIP_VALUE, 0, 0);
+    expect("position 2^62 - 1", ubrenchip_widen(8, TOP, 255), UBRENCHIP_DONE, 0, TOP);
+    expect("position past the top", ubrenchip_widen(8, TOP, 0), UBRENCHIP_RANGE, 0, 0);
+    expect("half a turn past the top", ubrenchip_widen(8, TOP, 127), UBRENCHIP_HALF, 0, 0);
+    expect("position past the bottom", ubrenchip_widen(8, -TOP, 0), UBRENCHIP_RANGE, 0, 0);
+    expect("half a turn past the bottom", ubrenchip_widen(8, -TOP, 129), UBRENCHIP_HALF, 0, 0);
+    expect("old position 2^62", ubrenchip_widen(8, TOP + 1, 0), UBRENCHIP_VALUE, 0, 0);
+    expect("old position -2^62", ubrenchip_widen(8, -TOP - 1, 0), UBRENCHIP_VALUE, 0, 0);
+    expect("old position the least number", ubrenchip_widen(8, INT64_MIN, 0), UBRENCHIP_VALUE, 0, 0);
+}
+
+static void speed(void)
+{
+    expect("1 in 3 at 1", ubrenchip_speed_by_count(1, 3, 1), UBRENCHIP_DONE, 0, 333);
+    expect("-1 in 2000 at 1", ubrenchip_speed_by_count(-1, 2000, 1), UBRENCHIP_DONE, 0, -1);
+    expect("1 in 2000 at 1", ubrenchip_speed_by_count(1, 2000, 1), UBRENCHIP_DONE, 0, 1);
+    expect("1 in 2001 at 1", ubrenchip_speed_by_count(1, 2001, 1), UBRENCHIP_DONE, 0, 0);
+    expect("-1 in 2001 at 1", ubrenchip_speed_by_count(-1, 2001, 1), UBRENCHIP_DONE, 0, 0);
+    expect("-3 in 2000 at 1", ubrenchip_speed_by_count(-3, 2000, 1), UBRENCHIP_DONE, 0, -2);
+    expect("0 in 1 at 1", ubrenchip_speed_by_count(0, 1, 1), UBRENCHIP_DONE, 0, 0);
+    expect("no samples", ubrenchip_speed_by_count(1, 0, 1), UBRENCHIP_VALUE, 0, 0);
+    expect("2^32 samples", ubrenchip_speed_by_count(1, INT64_C(4294967296), 1), UBRENCHIP_VALUE, 0, 0);
+    expect("no rate", ubrenchip_speed_by_count(1, 1, 0), UBRENCHIP_VALUE, 0, 0);
+    expect("a rate of 1,000,001", ubrenchip_speed_by_count(1, 1, 1000001), UBRENCHIP_VALUE, 0, 0);
+    expect("the most that fits", ubrenchip_speed_by_count(2147483647, 1, 1000000), UBRENCHIP_DONE, 0,
+           INT64_C(2147483647000000000));
+    expect("the least that fits", ubrenchip_speed_by_count(-2147483647, 1, 1000000), UBRENCHIP_DONE, 0,
+           -INT64_C(2147483647000000000));
+    expect("2^31 counts", ubrenchip_speed_by_count(INT64_C(2147483648), 1, 1), UBRENCHIP_VALUE, 0, 0);
+    expect("-2^31 counts", ubrenchip_speed_by_count(-INT64_C(2147483648), 1, 1), UBRENCHIP_VALUE, 0, 0);
+    expect("the least number", ubrenchip_speed_by_count(INT64_MIN, 1, 1), UBRENCHIP_VALUE, 0, 0);
+}
+
+int main(void)
+{
+    widening();
+    speed();
+    if (wrong) {
+        printf("%d of %d checks are wrong\n", wrong, checks);
+        return 1;
+    }
+    printf("the C host: %d checks, none wrong\n", checks);
+    return 0;
+}

@@ -1,0 +1,62 @@
+/*
+ * Ubrenchip: the encoder operations that need no table, for C.
+ *
+ * Every call tests its own arguments and always returns. None keeps anything between calls, so any
+ * number of threads may call at once. Link with libhost.a (see README.md, "The C host").
+ */
+#ifndef UBRENCHIP_H
+#define UBRENCHIP_H
+
+#include <stddef.h>
+#include <stdint.h>
+
+#ifdef __cplusplus
+extern "C" {
+#endif
+
+/* Why a call is refused. 0 is done. */
+enum ubrenchip_refusal {
+    UBRENCHIP_DONE = 0,
+    UBRENCHIP_LENGTH = 1,    /* the table's slice is not 4n words, n from 1 to 16 */
+    UBRENCHIP_AXIS = 2,      /* there is no such axis */
+    UBRENCHIP_BROKEN = 3,    /* the row holds what no call could have left there */
+    UBRENCHIP_EMPTY = 4,     /* the row holds no axis */
+    UBRENCHIP_KIND = 5,      /* the call is for the other kind of axis */
+    UBRENCHIP_VALUE = 6,     /* an argument or a record's value is outside its limits */
+    UBRENCHIP_HALF = 7,      /* the reading lies exactly half a counter turn away */
+    UBRENCHIP_RANGE = 8,     /* the position would leave its range */
+    UBRENCHIP_NO_PERIOD = 9, /* no two steps one way yet, so there is no speed by period */
+    UBRENCHIP_ROOM = 10,     /* the buffer is too small */
+    UBRENCHIP_LAYOUT = 11,   /* a record of another layout, whose number is in `found` */
+    UBRENCHIP_RECORD = 12    /* not a record, or a misshapen one */
+};
+
+/* What a call answers. On a refusal the value is 0; `found` is 0 but for LAYOUT. */
+typedef struct ubrenchip_answer {
+    uint32_t refusal; /* UBRENCHIP_DONE, or why not */
+    uint32_t found;   /* the layout number that LAYOUT found */
+    int64_t value;    /* the call's value */
+} ubrenchip_answer;
+
+/*
+ * The position that `reading`, the count of a counter of `width` bits, says, where the last known
+ * position is `position`: the one nearest to it that has the reading as its low bits. It is the true
+ * position wherever the shaft moved less than half a counter turn since.
+ * Widths are 2 to 32; positions -(2^62 - 1) to 2^62 - 1; readings 0 to 2^width - 1.
+ * Refusals, in this order: VALUE, HALF, RANGE.
+ */
+ubrenchip_answer ubrenchip_widen(uint64_t width, int64_t position, uint64_t reading);
+
+/*
+ * The speed of a count difference over a number of samples at `rate` samples a second, in thousandths
+ * of a count a second, to the nearest whole number, halves away from zero.
+ * Differences are -(2^31 - 1) to 2^31 - 1; samples 1 to 2^32 - 1; rates 1 to 1,000,000.
+ * Refusal: VALUE.
+ */
+ubrenchip_answer ubrenchip_speed_by_count(int64_t difference, uint64_t samples, uint64_t rate);
+
+#ifdef __cplusplus
+}
+#endif
+
+#endif
