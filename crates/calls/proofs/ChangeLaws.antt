@@ -136,7 +136,7 @@ counter-holds a k =
     }
 
 -- A row that was made and the row that was told are one.
-to-one : {q r : Row} {s : Status} {a : Axis} → To r ≡ To q → Holds r s a → Holds q s a
+pub to-one : {q r : Row} {s : Status} {a : Axis} → To r ≡ To q → Holds r s a → Holds q s a
 to-one {q} {r} {s} {a} e h = let d : r ≡ q = cc in subst (λ (t : Row). Holds t s a) d h
 
 -- What is refused makes no row.
