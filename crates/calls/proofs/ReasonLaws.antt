@@ -1,9 +1,9 @@
 -- The laws of BROKEN, EMPTY and KIND: each is answered exactly where the row is so.
 use Prim.Native.Nat.{ℕ, _<_}
 use native.Mathlib.Omega.{arith}
-use mathlib.Core.Path.{_≡_, refl, sym, ap, _∙_}
+use mathlib.Core.Path.{_≡_, refl}
 use mathlib.Core.Logic.{_↔_, _⊎_, inl, inr}
-use mathlib.Core.Bool.{true, false, _&&_}
+use mathlib.Core.Bool.{_&&_}
 use lib.Dec.{eqb, leb, lit<}
 use lib.ListN.{length}
 use lib.IntN.{ℤ}

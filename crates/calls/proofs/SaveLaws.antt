@@ -1,7 +1,7 @@
 -- The laws of save and restore.
-use Prim.Native.Nat.{ℕ, _<_, _≤_, _^_}
+use Prim.Native.Nat.{ℕ, _≤_, _^_}
 use native.Mathlib.Omega.{arith}
-use mathlib.Core.Path.{_≡_, refl, sym, ap, subst, _∙_}
+use mathlib.Core.Path.{_≡_, refl, sym, ap, _∙_}
 use mathlib.Core.Bool.{Bool, true, false, cond}
 use mathlib.Core.Logic.{_⊎_, inl, inr, ⊎-elim}
 use mathlib.Core.List.{List, _++_}
@@ -10,17 +10,16 @@ use lib.ListN.{length, take, drop}
 use lib.Seq.{take-append-seam}
 use borrow.Author.Tests.{le-leb, leb-true}
 use Rattle.integers.proofs.Balance.{Tested, yes, no, test}
-use Rattle.position.specs.Position.{inRange, wordOf, positionOf}
+use Rattle.position.specs.Position.{inRange, wordOf}
 use Rattle.position.proofs.PositionLaws.{word-low, word-high, position-in-range, position-word, word-position}
 use Rattle.refusal.specs.declared.Refusal.{Refusal}
-use Rattle.refusal.specs.declared.Refusal.the-variants.{Value as VALUE, Room as ROOM}
+use Rattle.refusal.specs.declared.Refusal.the-variants.{Room as ROOM}
 use Rattle.axis.specs.Kind.{sampledKind}
 use Rattle.axis.specs.Config.{sampledConfig, counterConfig, goodConfig}
 use Rattle.axis.specs.Row.{axisOf, rowOf, fresh, freshAt, Words}
 use Rattle.axis.specs.Sound.{statusOf}
 use Rattle.axis.specs.declared.row.Axis.{Axis}
 use Rattle.axis.specs.declared.row.Row.{Row}
-use Rattle.axis.specs.declared.sound.Status.{Status}
 use Rattle.axis.specs.declared.sound.Status.the-variants.{Sampled, Counter, Broken}
 use Rattle.axis.proofs.TestLaws.{both, either, sampled-config}
 use Rattle.axis.proofs.SoundLaws.{sampled-gives, counter-gives, counter-config, packed-again}
@@ -29,12 +28,10 @@ use Rattle.record.specs.Record.{within, readAs, recordOf, savedAs, written}
 use Rattle.record.specs.declared.answer.Saved.{Saved}
 use Rattle.record.specs.declared.answer.Read.{Read}
 use Rattle.record.specs.declared.answer.Read.the-variants.{Accepted, Refused as Unread}
-use Rattle.record.specs.declared.answer.Written.{Written}
 use Rattle.record.specs.declared.answer.Written.the-variants.{Bytes, Refused as Unwritten}
 use Rattle.record.proofs.RecordLaws.{read-back, one-encoding, accepted-within, saved-front}
 use Rattle.calls.specs.Change.{changed, presetAxis, Holds}
 use Rattle.calls.specs.Calls.{Positioned, byStatus, andThen, placeRow, presetRow, setupRow, savedOf, saveRow, savedIn, restoredBy, restoreRow}
-use Rattle.calls.specs.declared.answer.Changed.{Changed}
 use Rattle.calls.specs.declared.answer.Changed.the-variants.{To, Kept}
 use Rattle.calls.proofs.StatusLaws.{sampled-positioned, counter-positioned, live}
 use Rattle.calls.proofs.ChangeLaws.{to-one, kept-not}
