@@ -2,4 +2,6 @@ pub mod TableLaws
 pub mod LocatedLaws
 pub mod PortLaws
 pub mod CallLaws
+pub mod SaveLaws
 pub mod OrderLaws
+pub mod OutcomeLaws

@@ -1,5 +1,5 @@
 -- The order of the reasons in the calls that name one axis: document 01, "Reasons for saying no".
-use Prim.Native.Nat.{ℕ, _<_, _≤_, max}
+use Prim.Native.Nat.{ℕ, _<_, _≤_}
 use native.Mathlib.Omega.{arith}
 use mathlib.Core.Path.{_≡_, refl, sym, ap, _∙_}
 use mathlib.Core.Logic.{_≢_, _↔_, _⊎_, inl, inr, ⊎-elim}
@@ -34,7 +34,7 @@ use Rattle.record.specs.declared.answer.Saved.{Saved}
 use Rattle.record.specs.declared.answer.Written.the-variants.{Bytes, Refused as Unwritten}
 use Rattle.record.proofs.OrderLaws.{exactly}
 use Rattle.calls.specs.Answer.{doneOf, doneNumber, viewNumber}
-use Rattle.calls.specs.Calls.{byStatus, setupRow, eraseRow, placeRow, presetRow, armRow, acknowledgeRow, viewRow, readingRow, signOf, speedOf, speedRow, savedOf, saveRow, restoreRow, restoredBy}
+use Rattle.calls.specs.Calls.{byStatus, setupRow, eraseRow, placeRow, presetRow, armRow, acknowledgeRow, viewRow, readingRow, signOf, spanOf, speedOf, speedRow, savedOf, saveRow, restoreRow, restoredBy}
 use Rattle.calls.specs.declared.answer.Changed.{Changed}
 use Rattle.calls.specs.declared.answer.Changed.the-variants.{To, Kept}
 use Rattle.calls.specs.declared.answer.Done.{Done}
@@ -183,8 +183,8 @@ pub speed-late : (rate : ℕ) (r : Row) → After Axis (refusalIn (speedRow rate
 unfolding speedRow speedOf
 speed-late rate r =
     let a = axisOf r in
-    let counted = either refusalIn Axis (eqb (a .period) 0) (Unreckoned NoPeriod) (speedByCount (signOf (a .direction)) (max (a .period) (a .age)) rate)
-        (inr (lit< tt)) (count-late (signOf (a .direction)) (max (a .period) (a .age)) rate) in
+    let counted = either refusalIn Axis (eqb (a .period) 0) (Unreckoned NoPeriod) (speedByCount (signOf (a .direction)) (spanOf a) rate)
+    (inr (lit< tt)) (count-late (signOf (a .direction)) (spanOf a) rate) in
     by-status refusalIn Unreckoned (λ e. refl) _ _ (either refusalIn Axis (goodRate rate) _ _ counted (inr (lit< tt))) (inr (lit< tt)) (statusOf r)
 
 saved-late : (room : ℕ) (s : Saved) → After Axis (writtenNumber (savedAs room s))

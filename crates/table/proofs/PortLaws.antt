@@ -246,13 +246,13 @@ sample-apart t u p q k h i r b =
     let e : stepAt t (nibble p) k ≡ stepAt u (nibble q) k = rw r (lines-step (rowAt u k) p q k b) in (
       sample-row t p k h ∙ ap (λ (s : SteppedRow). s .row) e ∙ sym (sample-row u q k i),
       λ m o x y.
-      let v = sample-bits t p k h m x in
-      let w = sample-bits u q k i o y in
-      record {
-        doubles = v .doubles ∙ ap (λ (s : SteppedRow). s .double) e ∙ sym (w .doubles);
-        index = v .index ∙ ap (λ (s : SteppedRow). s .index) e ∙ sym (w .index);
-        broken = v .broken ∙ ap (λ (s : SteppedRow). s .broken) e ∙ sym (w .broken);
-      },
+          let v = sample-bits t p k h m x in
+          let w = sample-bits u q k i o y in
+          record {
+            doubles = v .doubles ∙ ap (λ (s : SteppedRow). s .double) e ∙ sym (w .doubles);
+            index = v .index ∙ ap (λ (s : SteppedRow). s .index) e ∙ sym (w .index);
+            broken = v .broken ∙ ap (λ (s : SteppedRow). s .broken) e ∙ sym (w .broken);
+          },
     )
 
 -- HEADLINE: the fourth bits, and the bits of axes that there are not, are not read: ports that agree on the others do the same.

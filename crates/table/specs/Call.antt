@@ -1,9 +1,9 @@
 -- What the calls that name one axis promise: document 01, "Calls that name one axis".
-use Prim.Native.Nat.{ℕ, _/_}
+use Prim.Native.Nat.{ℕ, _/_, _≤_}
 use mathlib.Core.Path.{_≡_}
 use mathlib.Core.Logic.{_≢_}
 use mathlib.Core.List.{List}
-use lib.ListN.{length, getD}
+use lib.ListN.{length, getD, take, drop}
 use lib.IntN.{ℤ}
 use Rattle.reckon.specs.declared.Reckoned.{Reckoned}
 use Rattle.reckon.specs.declared.Reckoned.the-variants.{Refused as Unreckoned}
@@ -69,3 +69,11 @@ saveIn room t k = onFound Unwritten (saveRow room) (located t k)
 pub record Saves (t : List ℕ) (k : ℕ) (b d : List ℕ) (a : Written) : Type 0 where
   pub answer : a ≡ saveIn (length b) t k
   pub buffer : d ≡ onFound (λ _. b) (savedIn b) (located t k)
+
+-- What is written at the front of a buffer, b before and d after: n bytes for which there is room, and nothing beyond.
+pub record Fronts (bytes b : List ℕ) (n : ℕ) (d : List ℕ) : Type 0 where
+  pub size : length bytes ≡ n
+  pub room : n ≤ length b
+  pub front : take n d ≡ bytes
+  pub beyond : drop n d ≡ drop n b
+  pub whole : length d ≡ length b
