@@ -9,10 +9,10 @@ use borrow.Author.Tests.{eqb-true, eqb-false, leb-true, ltb-true, not-true, not-
 use Rattle.fields.specs.Field.{fieldOf}
 use Rattle.axis.specs.declared.row.Axis.{Axis}
 use Rattle.axis.specs.declared.row.Row.{Row}
-use Rattle.axis.specs.Kind.{COUNTER, sampledKind, counterKind}
+use Rattle.axis.specs.Kind.{COUNTER, sampledKind}
 use Rattle.axis.specs.Config.{sampledConfig, counterConfig}
 use Rattle.axis.specs.Row.{Held}
-use Rattle.axis.specs.Sound.{isEmpty, isPlain, isFresh, isShort, isPaced, isConsistent, Fresh, SampledAxis}
+use Rattle.axis.specs.Sound.{isPlain, isFresh, isPaced, isConsistent, Fresh, SampledAxis}
 
 -- Both parts of a conjunction that holds hold.
 pub both : (a b : Bool) → a && b ≡ true → (a ≡ true) × (b ≡ true)

@@ -15,12 +15,14 @@ pub enum Status {
     Broken,
 }
 
+// Four zero words.
 fn is_empty(r: Row) -> bool
     ensures { λ b. ⌜ b ≡ isEmpty r ⌝ }
 {
     (r.w0 == 0) & (r.w1 == 0) & (r.w2 == 0) & (r.w3 == 0)
 }
 
+// What every sound row but an empty one has: a position in word 0, and 0 in the bits without a name.
 fn is_plain(r: Row) -> bool
     ensures { λ b. ⌜ b ≡ isPlain r ⌝ }
 {
@@ -32,6 +34,7 @@ fn is_plain(r: Row) -> bool
     (1 <= w0) & (w0 < 9223372036854775808) & (low == 0) & (high == 0) & (w3 < 4294967296)
 }
 
+// What an axis that is not primed has at 0.
 fn is_fresh(a: Axis) -> bool
     ensures { λ b. ⌜ b ≡ isFresh a ⌝ }
 {
@@ -52,6 +55,7 @@ fn is_fresh(a: Axis) -> bool
         & (a.period == 0)
 }
 
+// An axis that is not primed is fresh.
 fn is_ready(a: Axis) -> bool
     ensures { λ b. ⌜ b ≡ (a .primed || isFresh a) ⌝ }
 {
@@ -61,6 +65,7 @@ fn is_ready(a: Axis) -> bool
     is_fresh(a)
 }
 
+// Each run is below the depth.
 fn is_short(a: Axis) -> bool
     ensures { λ b. ⌜ b ≡ isShort a ⌝ }
 {
@@ -68,12 +73,14 @@ fn is_short(a: Axis) -> bool
     (runs[0] < a.depth) & (runs[1] < a.depth) & (runs[2] < a.depth)
 }
 
+// Direction and period fit each other.
 fn is_paced(a: Axis) -> bool
     ensures { λ b. ⌜ b ≡ isPaced a ⌝ }
 {
     (a.direction != 3) & (a.period <= 4294967294) & ((a.direction != 0) | (a.period == 0))
 }
 
+// What a sampled axis has beyond its configuration.
 fn is_consistent(a: Axis) -> bool
     ensures { λ b. ⌜ b ≡ isConsistent a ⌝ }
 {
@@ -83,6 +90,7 @@ fn is_consistent(a: Axis) -> bool
     is_short(a) & apart & is_paced(a) & counted & is_ready(a)
 }
 
+// A sampled row. Word 3 is known to be below 2^32 before the row is unpacked.
 fn is_sampled(r: Row) -> bool
     ensures { λ b. ⌜ b ≡ isSampled r ⌝ }
 {
@@ -95,6 +103,7 @@ fn is_sampled(r: Row) -> bool
     false
 }
 
+// A counter row: past its configuration nothing is set.
 fn is_counter(r: Row) -> bool
     ensures { λ b. ⌜ b ≡ isCounter r ⌝ }
 {

@@ -17,7 +17,7 @@ struct Flags {
     index: bool,
 }
 
-// What word 1 and word 2 say of the motion so far.
+// What words 1 and 2 say of the motion so far.
 struct Pace {
     doubles: u16,
     direction: u8,
@@ -25,6 +25,7 @@ struct Pace {
     period: u32,
 }
 
+// The configuration: bits 0 to 13 of word 1, and word 3.
 fn config_of(r: Row) -> Config
     requires { ⌜ r .w3 < 2 ^ 32 ⌝ }
     ensures { λ c. ⌜ (c .kind ≡ fieldOf 0 4 (r .w1)) × (c .depth ≡ fieldOf 4 4 (r .w1)) × (c .width ≡ fieldOf 8 6 (r .w1)) × (c .turn ≡ r .w3) ⌝ }
@@ -37,6 +38,7 @@ fn config_of(r: Row) -> Config
     }
 }
 
+// Bits 14 to 18.
 fn flags_of(w: u64) -> Flags
     ensures { λ f. ⌜ (f .primed ≡ flagOf 14 w) × (f .armed ≡ flagOf 15 w) × (f .homed ≡ flagOf 16 w) × (f .range ≡ flagOf 17 w) × (f .index ≡ flagOf 18 w) ⌝ }
 {
@@ -49,6 +51,7 @@ fn flags_of(w: u64) -> Flags
     }
 }
 
+// Bits 19 to 21.
 fn levels_of(w: u64) -> [bool; 3]
     ensures { λ l. ⌜ l ≡ flagOf 19 w ∷ flagOf 20 w ∷ flagOf 21 w ∷ [] ⌝ }
 {
@@ -59,6 +62,7 @@ fn levels_of(w: u64) -> [bool; 3]
     ]
 }
 
+// Bits 22 to 30.
 fn runs_of(w: u64) -> [u8; 3]
     ensures { λ l. ⌜ l ≡ fieldOf 22 3 w ∷ fieldOf 25 3 w ∷ fieldOf 28 3 w ∷ [] ⌝ }
 {
@@ -69,6 +73,7 @@ fn runs_of(w: u64) -> [u8; 3]
     ]
 }
 
+// Bits 32 to 49 of word 1, and word 2.
 fn pace_of(r: Row) -> Pace
     ensures { λ p. ⌜ (p .doubles ≡ fieldOf 32 16 (r .w1)) × (p .direction ≡ fieldOf 48 2 (r .w1)) × (p .age ≡ fieldOf 0 32 (r .w2)) × (p .period ≡ fieldOf 32 32 (r .w2)) ⌝ }
 {

@@ -1,19 +1,16 @@
 -- The laws of one field, read and written.
-use mathlib.Core.Path.{_≡_, refl, sym, ap, _∙_, subst}
-use mathlib.Core.Bool.{Bool, true, false, _&&_}
-use mathlib.Core.List.{List, [], _∷_, _++_}
+use mathlib.Core.Path.{_≡_, subst}
+use mathlib.Core.Bool.{true}
+use mathlib.Core.List.{List}
 use Prim.Native.Nat.{ℕ, _+_, _^_, _≤_, _<_}
 use native.Mathlib.Omega.{arith}
-use borrow.Author.Tests.{eq-eqb, ne-eqb, le-leb, lt-leb, eqb-true, leb-true}
-use lib.Dec.{eqb, leb}
-use lib.ListN.{length, take, drop, getD, length-append, length-drop, take-append-drop}
-use lib.Seq.{take-at, getD-at, getD-append-add, drop-append-add, drop-cons, drop-drop, length-take-le}
+use borrow.Author.Tests.{eq-eqb, ne-eqb, le-leb, lt-leb}
+use lib.ListN.{length, getD}
 use Rattle.integers.proofs.Balance.{Tested, yes, no, test}
-use Rattle.record.specs.declared.field.Field.{Field}
 use Rattle.record.specs.declared.field.Field.the-variants.{Value, Bad}
-use Rattle.record.specs.Bytes.{Bytes, numberIn, numberAt, bytesOf}
-use Rattle.record.specs.Record.{standsAt, fieldAt, fieldBytes}
-use Rattle.record.proofs.BytesLaws.{bytes-drop, bytes-take, number-below, length-bytesOf, number-back, bytes-back}
+use Rattle.record.specs.Bytes.{Bytes, numberAt}
+use Rattle.record.specs.Record.{standsAt, fieldAt}
+use Rattle.record.proofs.BytesLaws.{number-below}
 
 -- ---- the tests of the code, one after another
 

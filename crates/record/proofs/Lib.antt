@@ -2,3 +2,8 @@ pub mod BytesLaws
 pub mod StoreLaws
 pub mod FieldLaws
 pub mod WriterLaws
+pub mod OrderLaws
+pub mod LimitsLaws
+pub mod RoundTrip
+pub mod AnswerLaws
+pub mod RecordLaws

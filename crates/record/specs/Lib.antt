@@ -1,3 +1,4 @@
 pub mod Bytes
 pub mod Answer
 pub mod Record
+pub mod Order

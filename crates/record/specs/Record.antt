@@ -131,15 +131,15 @@ fieldBytes tag n v = tag ∷ 0 ∷ n ∷ bytesOf n v
 
 -- The opening, the kind and the position.
 unfoldable pub headBytes : ℕ → ℕ → List ℕ
-headBytes kind bits = opening ++ fieldBytes KIND 1 kind ++ fieldBytes POSITION 8 bits
+headBytes kind bits = opening ++ (fieldBytes KIND 1 kind ++ fieldBytes POSITION 8 bits)
 
 -- A counter's record.
 unfoldable pub counterBytes : ℕ → ℕ → ℕ → List ℕ
-counterBytes kind bits width = headBytes kind bits ++ fieldBytes WIDTH 1 width ++ fieldBytes END 0 0
+counterBytes kind bits width = headBytes kind bits ++ (fieldBytes WIDTH 1 width ++ fieldBytes END 0 0)
 
 -- A sampled axis's record.
 unfoldable pub sampledBytes : ℕ → ℕ → ℕ → ℕ → List ℕ
-sampledBytes kind bits depth turn = headBytes kind bits ++ fieldBytes DEPTH 1 depth ++ fieldBytes TURN 4 turn ++ fieldBytes END 0 0
+sampledBytes kind bits depth turn = headBytes kind bits ++ (fieldBytes DEPTH 1 depth ++ (fieldBytes TURN 4 turn ++ fieldBytes END 0 0))
 
 -- The record of a configuration and a position.
 unfoldable pub recordOf : Saved → List ℕ

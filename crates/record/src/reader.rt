@@ -1,6 +1,5 @@
 // The reader and the test of a record.
 ghost use mathlib.Core.Path.{_≡_};
-ghost use Prim.Native.Nat.{_<_};
 ghost use Rattle.record.specs.Record.{unopened, endedAt, counterAt, sampledAt, knownKind, readAs, testedAs};
 use crate::answer::Read;
 use crate::answer::Saved;

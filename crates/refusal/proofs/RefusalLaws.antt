@@ -45,3 +45,8 @@ some-number Record = omega arith
 -- HEADLINE: two reasons with one number and one found value are one reason.
 pub told-apart : (r s : Refusal) → numberOf r ≡ numberOf s → foundIn r ≡ foundIn s → r ≡ s
 told-apart r s n f = sym (again r) ∙ rw (n, f) (again s)
+
+-- HEADLINE: no reason has the number 0, which says that nothing was refused.
+pub above-zero : (r : Refusal) → numberOf r ≡ 0 → ⊥
+unfolding reason
+above-zero r z = let e : Length ≡ r = rw z at (again r) in omega (arith, ap numberOf e)

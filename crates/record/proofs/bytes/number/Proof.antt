@@ -1,5 +1,5 @@
 use mathlib.Core.Path.{_≡_, refl, ap, _∙_}
-use Prim.Native.Nat.{ℕ, _+_, _-_, _^_, _≤_, _<_}
+use Prim.Native.Nat.{_+_, _-_, _^_, _≤_, _<_}
 use native.Mathlib.Nat.{pow-le-pow-right, lt-of-lt-of-le}
 use native.Mathlib.Omega.{arith}
 use Rattle.record.specs.Bytes.{Bytes, numberFrom, numberAt}

@@ -1,12 +1,12 @@
 use borrow.Author.Needs.{needs}
 use mathlib.Core.Path.{_≡_, sym, ap, _∙_}
-use mathlib.Core.Bool.{true, false}
+use mathlib.Core.Bool.{true}
 use borrow.Author.Tests.{not-true, not-false}
 use mir.Syntax.{w8}
 use mir.Val.{Fits}
 use Rattle.record.specs.declared.answer.Read.the-variants.{Refused}
 use Rattle.record.specs.declared.field.Field.the-variants.{Value}
-use Rattle.record.specs.Bytes.{Bytes, starts}
+use Rattle.record.specs.Bytes.{starts}
 use Rattle.record.specs.Record.{fieldAt, readAs, opening, knownKind, KIND, POSITION}
 use Rattle.record.proofs.FieldLaws.{field-below}
 use Rattle.record.proofs.reader.read.Statement.{statement}

@@ -1,5 +1,5 @@
 use borrow.Author.Needs.{needs}
-use mathlib.Core.Path.{_≡_, sym, _∙_}
+use mathlib.Core.Path.{sym, _∙_}
 use Rattle.record.proofs.reader.test.Statement.{statement}
 use Rattle.record.proofs.reader.test.Tie as tie
 

@@ -1,0 +1,100 @@
+-- The laws of what is within its limits: which kind it is of, and that its fields hold it.
+use mathlib.Core.Path.{_≡_, refl, sym, subst}
+use mathlib.Core.Bool.{Bool, true, false, _&&_, _||_}
+use mathlib.Core.Logic.{_⊎_, inl, inr, ⊎-elim}
+use Prim.Native.Nat.{ℕ, _^_, _≤_, _<_}
+use native.Mathlib.Omega.{arith}
+use borrow.Author.Tests.{eqb-true, leb-true, ltb-true}
+use lib.Dec.{T, eqb, leb, ltb}
+use mir.Syntax.{w64}
+use mir.Val.{SFits}
+use Rattle.integers.proofs.Machine.{fits-size}
+use Rattle.position.specs.Position.{inRange}
+use Rattle.position.proofs.PositionLaws.{range-is}
+use Rattle.axis.specs.declared.config.Config.{Config}
+use Rattle.axis.specs.Kind.{X1, X2, X4, sampledKind, counterKind}
+use Rattle.axis.specs.Config.{sampledConfig, counterConfig, goodConfig}
+use Rattle.record.specs.declared.answer.Saved.{Saved}
+use Rattle.record.specs.Record.{knownKind, within}
+
+-- ---- two tests at once
+
+pub and-true : (a b : Bool) → (a && b) ≡ true → (a ≡ true) × (b ≡ true)
+and-true true b h = (refl, h)
+and-true false b h = absurd (subst T (sym h) tt)
+
+or-true : (a b : Bool) → (a || b) ≡ true → (a ≡ true) ⊎ (b ≡ true)
+or-true true b h = inl refl
+or-true false b h = inr h
+
+-- ---- kinds
+
+-- A sampled kind is no counter's, and one byte holds it.
+pub record Sampled (k : ℕ) : Type 0 where
+  pub other : counterKind k ≡ false
+  pub byte : k < 256
+
+pub sampled-kind : (k : ℕ) → sampledKind k ≡ true → Sampled k
+sampled-kind k h =
+    ⊎-elim
+    (λ g. ⊎-elim (λ f. at X1 (eqb-true k X1 f) refl (omega arith)) (λ f. at X2 (eqb-true k X2 f) refl (omega arith)) (or-true (eqb k X1) (eqb k X2) g))
+    (λ f. at X4 (eqb-true k X4 f) refl (omega arith))
+    (or-true (eqb k X1 || eqb k X2) (eqb k X4) h)
+  where
+    at : (n : ℕ) → k ≡ n → counterKind n ≡ false → n < 256 → Sampled k
+    at n e f l = record { other = rw e f; byte = rw e l }
+
+pub known-counter : (k : ℕ) → counterKind k ≡ true → knownKind k ≡ true
+known-counter k h = rw h (go (sampledKind k))
+  where
+    go : (b : Bool) → (b || true) ≡ true
+    go true = refl
+    go false = refl
+
+-- ---- configurations and positions
+
+-- What a configuration within its limits is.
+pub data Good (c : Config) : Type 0 where
+  sampled : sampledKind (c .kind) ≡ true → c .depth ≤ 8 → c .width ≡ 0 → c .turn < 2 ^ 32 → Good c
+  counter : counterKind (c .kind) ≡ true → c .width ≤ 32 → c .depth ≡ 0 → c .turn ≡ 0 → Good c
+
+pub good-config : (c : Config) → goodConfig (c .kind) (c .depth) (c .width) (c .turn) ≡ true → Good c
+unfolding goodConfig
+good-config c h = ⊎-elim first second (or-true (sampledConfig k d w t) (counterConfig k d w t) h)
+  where
+    k : ℕ
+    k = c .kind
+
+    d : ℕ
+    d = c .depth
+
+    w : ℕ
+    w = c .width
+
+    t : ℕ
+    t = c .turn
+
+    first : sampledConfig k d w t ≡ true → Good c
+    first g =
+        let e = and-true (sampledKind k && leb 1 d && leb d 8 && eqb w 0) (ltb t (2 ^ 32)) g in
+        let f = and-true (sampledKind k && leb 1 d && leb d 8) (eqb w 0) (e .0) in
+        let i = and-true (sampledKind k && leb 1 d) (leb d 8) (f .0) in
+        sampled (and-true (sampledKind k) (leb 1 d) (i .0) .0) (leb-true d 8 (i .1)) (eqb-true w 0 (f .1)) (ltb-true t (2 ^ 32) (e .1))
+
+    second : counterConfig k d w t ≡ true → Good c
+    second g =
+        let e = and-true (counterKind k && leb 2 w && leb w 32 && eqb d 0) (eqb t 0) g in
+        let f = and-true (counterKind k && leb 2 w && leb w 32) (eqb d 0) (e .0) in
+        let i = and-true (counterKind k && leb 2 w) (leb w 32) (f .0) in
+        counter (and-true (counterKind k) (leb 2 w) (i .0) .0) (leb-true w 32 (i .1)) (eqb-true d 0 (f .1)) (eqb-true t 0 (e .1))
+
+module _ (s : Saved) (h : within s ≡ true) where
+  both : (goodConfig (s .config .kind) (s .config .depth) (s .config .width) (s .config .turn) ≡ true) × (inRange (s .position) ≡ true)
+  unfolding within
+  both = and-true (goodConfig (s .config .kind) (s .config .depth) (s .config .width) (s .config .turn)) (inRange (s .position)) h
+
+  pub within-config : Good (s .config)
+  within-config = good-config (s .config) (both .0)
+
+  pub within-position : SFits w64 (s .position)
+  within-position = fits-size (s .position) (omega (arith, range-is (s .position) (both .1)))

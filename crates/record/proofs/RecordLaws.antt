@@ -1,0 +1,150 @@
+-- The saved record's promises: document 01, "The saved record".
+use mathlib.Core.Path.{_≡_, refl, sym, ap, _∙_, subst}
+use mathlib.Core.Bool.{true, not, cond}
+use mathlib.Core.List.{List, [], _∷_, _++_}
+use Prim.Native.Nat.{ℕ, _^_, _<_}
+use native.Mathlib.Omega.{arith}
+use borrow.Author.Tests.{le-leb}
+use lib.IntN.{negsuc}
+use lib.ListN.{length, take, drop}
+use Rattle.integers.proofs.Balance.{Tested as Told, yes, no, test}
+use Rattle.refusal.specs.declared.Refusal.{Refusal}
+use Rattle.refusal.specs.declared.Refusal.the-variants.{Room, Layout}
+use Rattle.position.specs.Position.{inRange}
+use Rattle.axis.specs.Kind.{X4, counterKind}
+use Rattle.axis.specs.Config.{goodConfig}
+use Rattle.record.specs.declared.answer.Saved.{Saved}
+use Rattle.record.specs.declared.answer.Read.{Read}
+use Rattle.record.specs.declared.answer.Read.the-variants.{Accepted, Refused}
+use Rattle.record.specs.declared.answer.Tested.{Tested}
+use Rattle.record.specs.declared.answer.Tested.the-variants.{Accepted as Passes, Refused as Fails}
+use Rattle.record.specs.declared.answer.Written.{Written}
+use Rattle.record.specs.declared.answer.Written.the-variants.{Refused as Unwritten}
+use Rattle.record.specs.Bytes.{Bytes, numberIn, numberFrom, bytesOf, starts}
+use Rattle.record.specs.Answer.{testedOf}
+use Rattle.record.specs.Record.{within, readAs, testedAs, opening, fieldBytes, headBytes, counterBytes, sampledBytes, recordOf, savedAs, LAYOUT}
+use Rattle.record.specs.Order.{otherLayout, layoutIn, Judged, other-layout, bad-nine, bad-kind, bad-rest, bad-value, all-good}
+use Rattle.record.proofs.BytesLaws.{number-back, starts-is}
+use Rattle.record.proofs.OrderLaws.{exactly, passed}
+use Rattle.record.proofs.RoundTrip.{written-read, read-written}
+use Rattle.record.proofs.WriterLaws.{Saves, counter-long, sampled-long, counter-record, sampled-record}
+
+-- HEADLINE: what is written within its limits is read back as it was.
+pub read-back : (s : Saved) → within s ≡ true → readAs (recordOf s) ≡ Accepted s
+read-back s w = written-read s w
+
+-- HEADLINE: a slice of bytes that is accepted is the one record of what it says.
+pub one-encoding : (s : List ℕ) (said : Saved) → Bytes s → readAs s ≡ Accepted said → recordOf said ≡ s
+one-encoding s said b h = read-written s b said h
+
+-- HEADLINE: two slices of bytes that are accepted and say the same are the same.
+pub one-slice : (s t : List ℕ) (said : Saved) → Bytes s → Bytes t → readAs s ≡ Accepted said → readAs t ≡ Accepted said → s ≡ t
+one-slice s t said b c h k = sym (one-encoding s said b h) ∙ one-encoding t said c k
+
+-- The five opening bytes, and 34 or 27 bytes by the kind.
+pub record Shaped (s : List ℕ) (kind : ℕ) : Type 0 where
+  pub opens : take 5 s ≡ opening
+  pub long : length s ≡ cond (counterKind kind) 27 34
+
+-- HEADLINE: every record that is written opens with the five bytes and has 34 or 27.
+pub written-shape : (s : Saved) → Shaped (recordOf s) (s .config .kind)
+unfolding counterBytes sampledBytes headBytes fieldBytes
+written-shape s = go (test (counterKind (s .config .kind)))
+  where
+    go : Told (counterKind (s .config .kind)) → Shaped (recordOf s) (s .config .kind)
+    go (yes k) = record { opens = rw (counter-record s k); long = rw k (counter-long s k) }
+    go (no k) = record { opens = rw (sampled-record s k); long = rw k (sampled-long s k) }
+
+-- HEADLINE: every slice of bytes that is accepted opens with the five bytes and has 34 or 27.
+pub accepted-shape : (s : List ℕ) (said : Saved) → Bytes s → readAs s ≡ Accepted said → Shaped s (said .config .kind)
+accepted-shape s said b h = subst (λ (l : List ℕ). Shaped l (said .config .kind)) (one-encoding s said b h) (written-shape said)
+
+-- HEADLINE: what is accepted is within its limits.
+pub accepted-within : (s : List ℕ) (said : Saved) → readAs s ≡ Accepted said → within said ≡ true
+accepted-within s said h = passed s said h .limits
+
+-- ---- the test
+
+-- HEADLINE: the test accepts exactly the slices that the reader accepts.
+pub test-accepts : (s : List ℕ) → (testedAs s ≡ Passes → (said : Saved) × (readAs s ≡ Accepted said)) × ((said : Saved) → readAs s ≡ Accepted said → testedAs s ≡ Passes)
+test-accepts s = (go (readAs s), λ said h. rw h)
+  where
+    go : (r : Read) → testedOf r ≡ Passes → (said : Saved) × (r ≡ Accepted said)
+    go (Accepted said) h = (said, refl)
+    go (Refused r) h = let z : _≡_ {A = ℕ} 0 1 = cc in absurd (omega arith)
+
+-- HEADLINE: the test refuses exactly the slices that the reader refuses, for the same reason.
+pub test-refuses : (s : List ℕ) (q : Refusal) → (testedAs s ≡ Fails q → readAs s ≡ Refused q) × (readAs s ≡ Refused q → testedAs s ≡ Fails q)
+test-refuses s q = (go (readAs s), λ h. rw h)
+  where
+    go : (r : Read) → testedOf r ≡ Fails q → r ≡ Refused q
+    go (Accepted said) h = let z : _≡_ {A = ℕ} 0 1 = cc in absurd (omega arith)
+    go (Refused r) h = cc
+
+-- ---- another layout
+
+-- A slice with the layout field of a number other than 1, whatever follows.
+other-opening : (n : ℕ) (rest : List ℕ) → n < 256 ^ 2 → (n ≡ 1 → ⊥) → otherLayout (fieldBytes LAYOUT 2 n ++ rest) ≡ true
+unfolding otherLayout fieldBytes bytesOf numberFrom
+other-opening n rest h other = rw (le-leb 5 (length s) (omega arith)) (go (test (starts opening s)))
+  where
+    s : List ℕ
+    s = fieldBytes LAYOUT 2 n ++ rest
+
+    go : Told (starts opening s) → not (starts opening s) ≡ true
+    go (no e) = rw e
+    go (yes e) = absurd (other (sym (number-back 2 n h) ∙ ap (λ (l : List ℕ). numberIn (take 2 (drop 3 l))) (starts-is opening s e)))
+
+-- HEADLINE: a slice that opens 01 00 02 and then a number other than 1 is refused by LAYOUT with that number, by reader and test,
+-- whatever follows.
+pub layout-refused : (n : ℕ) (rest : List ℕ) → n < 256 ^ 2 → (n ≡ 1 → ⊥) → (readAs (fieldBytes LAYOUT 2 n ++ rest) ≡ Refused (Layout n)) × (testedAs (fieldBytes LAYOUT 2 n ++ rest) ≡ Fails (Layout n))
+unfolding fieldBytes bytesOf
+layout-refused n rest h other =
+    let s = fieldBytes LAYOUT 2 n ++ rest in
+    let e = exactly s (Refused (Layout n)) .1 (other-layout (other-opening n rest h other) (ap (λ (m : ℕ). Refused (Layout m)) (sym (number-back 2 n h)))) in
+    (e, test-refuses s (Layout n) .1 e)
+
+-- HEADLINE: no other slice is refused by LAYOUT, and the number is the one that stands there.
+pub layout-found : (s : List ℕ) (n : ℕ) → readAs s ≡ Refused (Layout n) → (otherLayout s ≡ true) × (n ≡ layoutIn s)
+layout-found s n h = go (exactly s (Refused (Layout n)) .0 h)
+  where
+    go : Judged s (Refused (Layout n)) → (otherLayout s ≡ true) × (n ≡ layoutIn s)
+    go (other-layout l e) = (l, cc)
+    go (bad-nine l m e) = let z : _≡_ {A = ℕ} 0 1 = cc in absurd (omega arith)
+    go (bad-kind m k e) = let z : _≡_ {A = ℕ} 0 1 = cc in absurd (omega arith)
+    go (bad-rest m k r e) = let z : _≡_ {A = ℕ} 0 1 = cc in absurd (omega arith)
+    go (bad-value m k r w e) = let z : _≡_ {A = ℕ} 0 1 = cc in absurd (omega arith)
+    go (all-good m k r w e) = let z : _≡_ {A = ℕ} 0 1 = cc in absurd (omega arith)
+
+-- ---- one outcome
+
+-- Two outcomes of one definition are equal.
+one : {A : Type 0} {x y z : A} → y ≡ x → z ≡ x → y ≡ z
+one p q = p ∙ sym q
+
+-- HEADLINE: reading a slice has one outcome.
+pub read-one : (s : List ℕ) (q r : Read) → q ≡ readAs s → r ≡ readAs s → q ≡ r
+read-one s q r = one
+
+-- HEADLINE: testing a slice has one outcome.
+pub test-one : (s : List ℕ) (q r : Tested) → q ≡ testedAs s → r ≡ testedAs s → q ≡ r
+test-one s q r = one
+
+-- HEADLINE: saving into a buffer has one outcome, answer and buffer.
+pub save-one : (b : List ℕ) (s : Saved) (q r : Written) (c d : List ℕ) → Saves b s q c → Saves b s r d → (q ≡ r) × (c ≡ d)
+save-one b s q r c d h k = (one (h .0) (k .0), one (h .1) (k .1))
+
+-- ---- the saved reading of document 01, "Readings to hold it against"
+
+abbrev pub x4 : Saved
+x4 = record { config = record { kind = X4; depth = 3; width = 0; turn = 4096 }; position = negsuc 1 }
+
+-- HEADLINE: x4, depth 3, 4096 counts per turn, position -2, byte for byte.
+pub x4-record : recordOf x4 ≡ 1 ∷ 0 ∷ 2 ∷ 0 ∷ 1 ∷ 2 ∷ 0 ∷ 1 ∷ 4 ∷ 3 ∷ 0 ∷ 8 ∷ 255 ∷ 255 ∷ 255 ∷ 255 ∷ 255 ∷ 255 ∷ 255 ∷ 254 ∷ 4 ∷ 0 ∷ 1 ∷ 3 ∷ 6 ∷ 0 ∷ 4 ∷ 0 ∷ 0 ∷ 16 ∷ 0 ∷ 127 ∷ 0 ∷ 0 ∷ []
+unfolding recordOf sampledBytes headBytes fieldBytes bytesOf
+x4-record = refl
+
+-- HEADLINE: a buffer of 33 bytes has no room for it.
+pub x4-room : savedAs 33 x4 ≡ Unwritten Room
+unfolding savedAs within goodConfig inRange recordOf sampledBytes headBytes fieldBytes bytesOf
+x4-room = refl
