@@ -15,12 +15,13 @@ use Rattle.axis.specs.declared.row.Axis.{Axis}
 use Rattle.axis.specs.declared.row.Row.{Row}
 use Rattle.axis.specs.Row.{layout, fieldsOf, axisOf, rowOf, word1Of, word2Of, freshAt, Narrow, Held, Words, Agree}
 
--- A bit that is read as a flag is that bit again.
+-- A number below 2 that is read as a flag is that bit again.
 bit-flag-at : (x : ℕ) → x < 2 → bitOf (eqb x 1) ≡ x
 bit-flag-at zero h = refl
 bit-flag-at (suc zero) h = refl
 bit-flag-at (suc (suc x)) h = absurd (omega arith)
 
+-- A field of one bit is its flag's bit.
 bit-flag : (at w : ℕ) → bitOf (flagOf at w) ≡ fieldOf at 1 w
 bit-flag at w = bit-flag-at (fieldOf at 1 w) (mod-lt (w / 2 ^ at) (lit< tt))
 
@@ -29,6 +30,7 @@ flag-bit : (b : Bool) → eqb (bitOf b) 1 ≡ b
 flag-bit true = refl
 flag-bit false = refl
 
+-- A bit is below 2.
 bit-below : (b : Bool) → bitOf b < 2
 bit-below true = lit< tt
 bit-below false = lit< tt
@@ -106,6 +108,7 @@ row-again r h low high = λ i. record {
   w3 = r .w3;
 }
 
+-- The values of word 1's fields are within the layout.
 within : (a : Axis) → Narrow a → Within layout (fieldsOf a)
 within a h =
     omega (
@@ -129,10 +132,11 @@ held-words a h w t = record {
   w3 = t;
 }
 
--- The field at place k of word 1, packed and read.
+-- The field at place k of the layout, packed and read.
 pub back : (a : Axis) → Narrow a → (k : ℕ) → getD (split 0 layout (word1Of a)) k 0 ≡ getD (fieldsOf a) k 0
 back a h k = ap (λ (l : List ℕ). getD l k 0) (split-join layout (fieldsOf a) (within a h))
 
+-- The same of a flag.
 back-flag : (a : Axis) → Narrow a → (k : ℕ) (b : Bool) → getD (fieldsOf a) k 0 ≡ bitOf b → eqb (getD (split 0 layout (word1Of a)) k 0) 1 ≡ b
 back-flag a h k b e = ap (λ (x : ℕ). eqb x 1) (back a h k ∙ e) ∙ flag-bit b
 

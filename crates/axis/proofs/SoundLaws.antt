@@ -70,6 +70,7 @@ status-passes r = go (isEmpty r) (isSampled r) (isCounter r) refl refl refl
     go false false true he hs hq = hq
     go false false false he hs hq = rw (he, hs, hq)
 
+-- A row of a status passes the test of it.
 passes-of : (s : Status) (r : Row) → statusOf r ≡ s → passes s r ≡ true
 passes-of s r e = ap (λ (t : Status). passes t r) (sym e) ∙ status-passes r
 

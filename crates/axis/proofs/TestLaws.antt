@@ -18,11 +18,12 @@ use Rattle.axis.specs.Sound.{isPlain, isFresh, isPaced, isConsistent, Fr
 pub both : (a b : Bool) → a && b ≡ true → (a ≡ true) × (b ≡ true)
 both a b e = and-eq-true-iff a b .0 e
 
--- A disjunction holds exactly where its second part does if the first does not.
+-- A disjunction that holds has its second part where the first is false.
 pub otherwise : (a b : Bool) → a || b ≡ true → a ≡ false → b ≡ true
 otherwise true b e f = absurd (true≢false f)
 otherwise false b e f = e
 
+-- A disjunction holds if its second part does where the first is false.
 pub either : (a b : Bool) → (a ≡ false → b ≡ true) → a || b ≡ true
 either true b f = refl
 either false b f = f refl
@@ -40,6 +41,7 @@ pub record Plain (r : Row) : Type 0 where
   pub high : fieldOf 50 14 (r .w1) ≡ 0
   pub turn : r .w3 < 2 ^ 32
 
+-- A row that passes the plain test is plain.
 pub plain : (r : Row) → isPlain r ≡ true → Plain r
 plain r e =
     let h4 = both _ (ltb (r .w3) (2 ^ 32)) e in
@@ -54,6 +56,7 @@ plain r e =
       turn = ltb-true (r .w3) (2 ^ 32) (h4 .1);
     }
 
+-- A plain row passes the plain test.
 pub plain-from : (r : Row) → Plain r → isPlain r ≡ true
 plain-from r p =
     rw (
@@ -72,6 +75,7 @@ pub record SampledSetting (k d v n : ℕ) : Type 0 where
   pub width : v ≡ 0
   pub turn : n < 2 ^ 32
 
+-- A configuration that passes that test is within its limits.
 pub sampled-setting : (k d v n : ℕ) → sampledConfig k d v n ≡ true → SampledSetting k d v n
 sampled-setting k d v n e =
     let h4 = both _ (ltb n (2 ^ 32)) e in
@@ -86,7 +90,7 @@ sampled-setting k d v n e =
       turn = ltb-true n (2 ^ 32) (h4 .1);
     }
 
--- The same of a counter's configuration.
+-- What the test of a counter's configuration says of the same four.
 pub record CounterSetting (k d v n : ℕ) : Type 0 where
   pub kind : k ≡ COUNTER
   pub narrow : 2 ≤ v
@@ -94,6 +98,7 @@ pub record CounterSetting (k d v n : ℕ) : Type 0 where
   pub depth : d ≡ 0
   pub turn : n ≡ 0
 
+-- A configuration that passes that test is within its limits.
 pub counter-setting : (k d v n : ℕ) → counterConfig k d v n ≡ true → CounterSetting k d v n
 counter-setting k d v n e =
     let h4 = both _ (eqb n 0) e in
@@ -108,7 +113,7 @@ counter-setting k d v n e =
       turn = eqb-true n 0 (h4 .1);
     }
 
--- What the fresh test says of an axis.
+-- An axis that passes the fresh test is fresh.
 pub fresh-gives : (a : Axis) → isFresh a ≡ true → Fresh a
 fresh-gives a e =
     let h12 = both _ (eqb (a .period) 0) e in
@@ -139,6 +144,7 @@ fresh-gives a e =
       period = eqb-true (a .period) 0 (h12 .1);
     }
 
+-- A fresh axis passes the fresh test.
 pub fresh-from : {a : Axis} → Fresh a → isFresh a ≡ true
 fresh-from f =
     simp (
@@ -157,7 +163,7 @@ fresh-from f =
       f .period,
     )
 
--- What the tests of a sampled axis say of it.
+-- An axis that passes the tests of a sampled one is within its limits.
 pub sampled-axis : (a : Axis) → Held a → 1 ≤ a .word → a .word < 2 ^ 63 → sampledConfig (a .kind) (a .depth) (a .width) (a .turn) ≡ true → isConsistent a ≡ true → SampledAxis a
 sampled-axis a held above below config e =
     let s = sampled-setting (a .kind) (a .depth) (a .width) (a .turn) config in
@@ -193,6 +199,7 @@ sampled-axis a held above below config e =
       runs = held .runs;
     }
 
+-- The numbers of a sampled axis are a sampled configuration.
 pub sampled-config : {a : Axis} → SampledAxis a → sampledConfig (a .kind) (a .depth) (a .width) (a .turn) ≡ true
 sampled-config {a} s =
     rw (
@@ -203,6 +210,7 @@ sampled-config {a} s =
       lt-ltb (a .turn) (2 ^ 32) (s .turn),
     )
 
+-- A sampled axis passes the test beyond its configuration.
 pub sampled-consistent : {a : Axis} → SampledAxis a → isConsistent a ≡ true
 sampled-consistent {a} s =
     rw (

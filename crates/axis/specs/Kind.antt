@@ -3,13 +3,15 @@ use Prim.Native.Nat.{ℕ}
 use mathlib.Core.Bool.{Bool, _||_}
 use lib.Dec.{eqb}
 
--- x1, x2 and x4, by how many of the four edges of a cycle are counted.
+-- An axis of which one edge in a cycle of four is counted.
 abbrev pub X1 : ℕ
 X1 = 1
 
+-- An axis of which two edges are counted.
 abbrev pub X2 : ℕ
 X2 = 2
 
+-- An axis of which all four edges are counted.
 abbrev pub X4 : ℕ
 X4 = 4
 

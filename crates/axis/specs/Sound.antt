@@ -48,14 +48,14 @@ isConsistent a =
     && (not (a .index) || ltb 0 (a .turn))
     && (a .primed || isFresh a)
 
--- A sampled row.
+-- A sampled row: a sampled configuration, and consistent beyond it.
 abbrev pub isSampled : Row → Bool
 isSampled r =
     isPlain r
     && sampledConfig (fieldOf 0 4 (r .w1)) (fieldOf 4 4 (r .w1)) (fieldOf 8 6 (r .w1)) (r .w3)
     && isConsistent (axisOf r)
 
--- A counter row: bits 14 to 63 of word 1 are zero, and so is word 2.
+-- A counter row: a counter's configuration, and 0 in bits 14 to 63 of word 1 and in word 2.
 abbrev pub isCounter : Row → Bool
 isCounter r =
     isPlain r

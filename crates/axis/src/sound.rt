@@ -22,7 +22,7 @@ fn is_empty(r: Row) -> bool
     (r.w0 == 0) & (r.w1 == 0) & (r.w2 == 0) & (r.w3 == 0)
 }
 
-// What every sound row but an empty one has: a position in word 0, and 0 in the bits without a name.
+// What every sound row but an empty one has: a position in word 0, 0 in the bits without a name, and word 3 below 2^32.
 fn is_plain(r: Row) -> bool
     ensures { λ b. ⌜ b ≡ isPlain r ⌝ }
 {
@@ -86,11 +86,11 @@ fn is_consistent(a: Axis) -> bool
 {
     let turn = a.turn;
     let apart = !(a.armed & a.homed);
-    let counted = !a.index | (0 < turn);
-    is_short(a) & apart & is_paced(a) & counted & is_ready(a)
+    let indexed = !a.index | (0 < turn);
+    is_short(a) & apart & is_paced(a) & indexed & is_ready(a)
 }
 
-// A sampled row. Word 3 is known to be below 2^32 before the row is unpacked.
+// A sampled row. It is unpacked only once word 3 is known to be below 2^32.
 fn is_sampled(r: Row) -> bool
     ensures { λ b. ⌜ b ≡ isSampled r ⌝ }
 {

@@ -1,6 +1,6 @@
 use mathlib.Core.Path.{sym, _∙_}
-use Rattle.axis.specs.Sound.{statusOf}
 use borrow.Author.Needs.{needs}
+use Rattle.axis.specs.Sound.{statusOf}
 use Rattle.axis.proofs.sound.classify.Statement.{statement}
 use Rattle.axis.proofs.sound.classify.Tie as tie
 

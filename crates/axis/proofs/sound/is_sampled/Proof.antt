@@ -1,6 +1,6 @@
 use mathlib.Core.Path.{sym, _∙_}
-use Rattle.axis.proofs.TestLaws.{plain}
 use borrow.Author.Needs.{needs}
+use Rattle.axis.proofs.TestLaws.{plain}
 use Rattle.axis.proofs.sound.is_sampled.Statement.{statement}
 use Rattle.axis.proofs.sound.is_sampled.Tie as tie
 

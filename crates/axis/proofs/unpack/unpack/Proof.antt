@@ -1,5 +1,5 @@
-use Rattle.axis.proofs.RowLaws.{agree}
 use borrow.Author.Needs.{needs}
+use Rattle.axis.proofs.RowLaws.{agree}
 use Rattle.axis.proofs.unpack.unpack.Statement.{statement}
 use Rattle.axis.proofs.unpack.unpack.Tie as tie
 
