@@ -1,5 +1,5 @@
 -- What each call makes of the named row, and answers: document 01, "Calls that name one axis" and "The saved record".
-use Prim.Native.Nat.{ℕ, max}
+use Prim.Native.Nat.{ℕ, _<_, _^_, max}
 use mathlib.Core.Bool.{Bool, cond}
 use mathlib.Core.List.{List}
 use lib.Dec.{eqb}
@@ -41,18 +41,26 @@ byStatus refuse sampled counter Counter = counter
 
 -- ---- setup and erase, which take any row
 
+-- The configuration of four numbers.
+abbrev pub configOf : ℕ → ℕ → ℕ → ℕ → Config
+configOf kind depth width turn = record { kind = kind; depth = depth; width = width; turn = turn }
+
 -- Setup replaces the row, or refuses its arguments.
 unfoldable pub setupRow : ℕ → ℕ → ℕ → ℕ → Row → Changed
 setupRow kind depth width turn r =
-    cond (goodConfig kind depth width turn)
-    (To (rowOf (fresh (record { kind = kind; depth = depth; width = width; turn = turn }))))
-    (Kept VALUE)
+    cond (goodConfig kind depth width turn) (To (rowOf (fresh (configOf kind depth width turn)))) (Kept VALUE)
 
 -- Erase writes four zero words.
 unfoldable pub eraseRow : Row → Changed
 eraseRow r = To emptyRow
 
 -- ---- calls on a row that is sound and not empty
+
+-- What every such row has: word 0 is that of a position, and word 3 is below 2 ^ 32.
+pub record Positioned (r : Row) : Type 0 where
+  pub above : 0 < r .w0
+  pub below : r .w0 < 2 ^ 63
+  pub turn : r .w3 < 2 ^ 32
 
 -- A preset on such a row.
 unfoldable pub placeRow : ℤ → Row → Changed

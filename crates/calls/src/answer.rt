@@ -1,5 +1,8 @@
 // What a call makes of the named row, and what it answers.
+ghost use mathlib.Core.Path.{_≡_};
+ghost use Rattle.calls.specs.Answer.{doneOf};
 use axis::row::Row;
+use reckon::Reckoned;
 use refusal::Refusal;
 
 // What a call makes of the named row: another row, or the reason for leaving it.
@@ -12,6 +15,12 @@ pub enum Changed {
 pub enum Done {
     Yes,
     Refused(Refusal),
+}
+
+// What a reading answers, and what it makes of the named row.
+pub struct Taken {
+    pub answer: Reckoned,
+    pub row: Changed,
 }
 
 // What a view shows of an axis.
@@ -30,4 +39,14 @@ pub struct View {
 pub enum Viewed {
     Shows(View),
     Refused(Refusal),
+}
+
+// What a call that answers only that it was done says of what it made of the row.
+pub fn answered(c: Changed) -> Done
+    ensures { λ r. ⌜ r ≡ doneOf c ⌝ }
+{
+    match c {
+        Changed::To(_) => Done::Yes,
+        Changed::Kept(e) => Done::Refused(e),
+    }
 }

@@ -8,7 +8,7 @@ use Rattle.calls.specs.Calls.{setupRow, eraseRow, presetRow, armRow, acknowledg
 use Rattle.calls.specs.declared.answer.Changed.{Changed}
 use Rattle.calls.specs.declared.answer.Changed.the-variants.{To, Kept}
 
--- A call that names the axis, with any arguments: setup by kind, depth, width and counts per turn, save by the room in the buffer, restore by the
+-- A call that names the axis, with any arguments: setup by kind, depth, width and counts per turn, save by what the buffer holds, restore by the
 -- record's bytes.
 pub data Op : Type 0 where
   setup : ℕ → ℕ → ℕ → ℕ → Op
@@ -17,7 +17,7 @@ pub data Op : Type 0 where
   arm acknowledge view : Op
   reading : ℕ → Op
   speed : ℕ → Op
-  save : ℕ → Op
+  save : List ℕ → Op
   restore : List ℕ → Op
 
 -- The axis's four bits of a port sample, or a call that names it.
@@ -40,7 +40,7 @@ rowAfter r acknowledge = kept r (acknowledgeRow r)
 rowAfter r view = r
 rowAfter r (reading x) = kept r (readRow x r)
 rowAfter r (speed rate) = r
-rowAfter r (save room) = r
+rowAfter r (save buffer) = r
 rowAfter r (restore bytes) = kept r (restoreRow bytes r)
 
 -- A row after an event.

@@ -72,7 +72,7 @@ afterCall p acknowledge = bySort (acted p acknowledged) p (statusOf (p .start)) 
 afterCall p view = p
 afterCall p (reading x) = bySort p (readTo p (widened (axisOf (p .start) .width) (p .place) x)) (statusOf (p .start)) p
 afterCall p (speed rate) = p
-afterCall p (save room) = p
+afterCall p (save buffer) = p
 afterCall p (restore bytes) = restoredTo p (readAs bytes)
 
 -- The phase after an event.

@@ -1,7 +1,7 @@
 -- The laws of the reasons: no number is 0, and number and found value together tell them apart.
 use mathlib.Core.Path.{_≡_, refl, sym, ap, _∙_}
 use mathlib.Core.List.{List, [], _∷_}
-use Prim.Native.Nat.{ℕ, _<_}
+use Prim.Native.Nat.{ℕ}
 use native.Mathlib.Omega.{arith}
 use lib.ListN.{getD}
 use Rattle.refusal.specs.declared.Refusal.{Refusal}
@@ -28,25 +28,10 @@ again (Layout n) = refl
 again Record = refl
 
 -- HEADLINE: no reason has the number 0, which stands for done.
-pub some-number : (r : Refusal) → 0 < numberOf r
-some-number Length = omega arith
-some-number Axis = omega arith
-some-number Broken = omega arith
-some-number Empty = omega arith
-some-number Kind = omega arith
-some-number Value = omega arith
-some-number Half = omega arith
-some-number Range = omega arith
-some-number NoPeriod = omega arith
-some-number Room = omega arith
-some-number (Layout n) = omega arith
-some-number Record = omega arith
+pub above-zero : (r : Refusal) → numberOf r ≡ 0 → ⊥
+unfolding reason
+above-zero r z = let e : Length ≡ r = rw z at (again r) in omega (arith, ap numberOf e)
 
 -- HEADLINE: two reasons with one number and one found value are one reason.
 pub told-apart : (r s : Refusal) → numberOf r ≡ numberOf s → foundIn r ≡ foundIn s → r ≡ s
 told-apart r s n f = sym (again r) ∙ rw (n, f) (again s)
-
--- HEADLINE: no reason has the number 0, which says that nothing was refused.
-pub above-zero : (r : Refusal) → numberOf r ≡ 0 → ⊥
-unfolding reason
-above-zero r z = let e : Length ≡ r = rw z at (again r) in omega (arith, ap numberOf e)

@@ -1,0 +1,77 @@
+-- What a row's status gives to the calls: the words that they read, and an axis that packs again.
+use Prim.Native.Nat.{ℕ, _<_, _^_}
+use native.Mathlib.Omega.{arith}
+use mathlib.Core.Path.{_≡_, refl, sym, ap, subst, _∙_}
+use mathlib.Core.Bool.{Bool, true}
+use lib.IntN.{ℤ}
+use mir.Syntax.{w64}
+use mir.Val.{toZ, ofZ}
+use Rattle.integers.proofs.Machine.{back, fits-size}
+use Rattle.position.specs.Position.{inRange, positionOf}
+use Rattle.position.proofs.PositionLaws.{range-is}
+use Rattle.refusal.specs.declared.Refusal.{Refusal}
+use Rattle.refusal.specs.declared.Refusal.the-variants.{Broken as BROKEN, Empty as EMPTY, Kind as KIND}
+use Rattle.reckon.specs.declared.Reckoned.the-variants.{Number, Refused}
+use Rattle.reckon.proofs.NearestLaws.{nearest}
+use Rattle.axis.specs.Row.{axisOf, Narrow}
+use Rattle.axis.specs.Sound.{statusOf}
+use Rattle.axis.specs.declared.row.Axis.{Axis}
+use Rattle.axis.specs.declared.row.Row.{Row}
+use Rattle.axis.specs.declared.sound.Status.{Status}
+use Rattle.axis.specs.declared.sound.Status.the-variants.{Empty, Sampled, Counter, Broken}
+use Rattle.axis.proofs.RowLaws.{row-held}
+use Rattle.axis.proofs.SoundLaws.{sampled-gives, counter-gives}
+use Rattle.calls.specs.Change.{changed}
+use Rattle.calls.specs.Calls.{Positioned, byStatus, readingOf, readingRow}
+
+-- A sampled row has a position.
+pub sampled-positioned : (r : Row) → statusOf r ≡ Sampled → Positioned r
+sampled-positioned r e = let s = sampled-gives r e in record { above = s .above; below = s .below; turn = s .turn }
+
+-- A counter row has a position.
+pub counter-positioned : (r : Row) → statusOf r ≡ Counter → Positioned r
+counter-positioned r e =
+    let k = counter-gives r e in
+    record { above = k .above; below = k .below; turn = omega (arith, ap (λ (a : Axis). a .turn) (k .rest)) }
+
+-- The axis of a row packs again, whatever its word, its flags and its doubles become.
+pub packs : (a : Axis) (r : Row) → a ≡ axisOf r → (word : ℕ) (armed homed range index : Bool) (doubles : ℕ) → doubles < 2 ^ 16 →
+    Narrow (changed a word armed homed range index doubles)
+unfolding changed
+packs a r e word armed homed range index doubles below =
+    let n : Narrow a = subst Narrow (sym e) (row-held r .narrow) in
+    record {
+      kind = n .kind;
+      depth = n .depth;
+      width = n .width;
+      runA = n .runA;
+      runB = n .runB;
+      runZ = n .runZ;
+      doubles = below;
+      direction = n .direction;
+    }
+
+-- The machine holds a position as it is.
+pub held-position : (p : ℤ) → inRange p ≡ true → toZ w64 (ofZ w64 p) ≡ p
+held-position p e = back (fits-size p (omega (arith, range-is p e)))
+
+-- A reading that is accepted was one of a counter row.
+pub read-counter : (x : ℕ) (r : Row) (p : ℤ) → readingRow x r ≡ Number p → (statusOf r ≡ Counter) × (readingOf x (axisOf r) ≡ Number p)
+unfolding readingRow
+read-counter x r p e = go (statusOf r) refl e
+  where
+    no : {A : Type 0} (f : Refusal) → Refused f ≡ Number p → A
+    no f q = absurd (let z : _≡_ {A = ℕ} 0 1 = cc in omega arith)
+
+    go : (s : Status) → statusOf r ≡ s → byStatus Refused (Refused KIND) (readingOf x (axisOf r)) s ≡ Number p →
+        (statusOf r ≡ Counter) × (readingOf x (axisOf r) ≡ Number p)
+    go Broken h q = no BROKEN q
+    go Empty h q = no EMPTY q
+    go Sampled h q = no KIND q
+    go Counter h q = (h, q)
+
+-- A position that was read is in the range.
+pub read-in-range : (x : ℕ) (r : Row) (p : ℤ) → readingRow x r ≡ Number p → inRange p ≡ true
+read-in-range x r p e =
+    let a = axisOf r in
+    nearest (a .width) (positionOf (a .word)) p x (read-counter x r p e .1) .0

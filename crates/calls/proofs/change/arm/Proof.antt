@@ -1,0 +1,69 @@
+use mathlib.Core.Path.{sym, ap, _∙_}
+use Rattle.axis.specs.Row.{rowOf}
+use Rattle.axis.specs.declared.row.Axis.{Axis}
+use Rattle.calls.specs.declared.answer.Changed.the-variants.{To}
+use Rattle.calls.specs.Change.{changed, armAxis}
+use Rattle.calls.specs.Calls.{armRow}
+use Rattle.calls.proofs.StatusLaws.{sampled-positioned, packs}
+use mathlib.Core.Bool.{true, false}
+use borrow.Author.Needs.{needs}
+use Rattle.calls.proofs.change.arm.Statement.{statement}
+use Rattle.calls.proofs.change.arm.Tie as tie
+
+classify-requires : tie.Need-classify-requires
+classify-requires c κs = search needs
+
+enum-told : tie.Need-enum-told
+enum-told c = search needs
+
+enum-told-2 : tie.Need-enum-told-2
+enum-told-2 c = search needs
+
+enum-told-3 : tie.Need-enum-told-3
+enum-told-3 c = search needs
+
+enum-told-4 : tie.Need-enum-told-4
+enum-told-4 c = search needs
+
+unpack-requires : tie.Need-unpack-requires
+unpack-requires c κs = sampled-positioned (c .before .before .before .args .r) (sym (c .before .before .classify .ensures) ∙ c .enum-told4 .given .1) .turn
+
+pack-requires : tie.Need-pack-requires
+unfolding changed
+pack-requires c κs =
+    let u = c .unpack .result in
+    packs u (c .before .before .before .before .args .r) (c .unpack .ensures) (u .word) true false (u .range) (u .index) (u .doubles) (search needs)
+
+returns : tie.Need-returns
+unfolding armRow
+returns c = rw (sym (c .before .before .classify .ensures) ∙ c .enum-told .given .1)
+
+returns-2 : tie.Need-returns-2
+unfolding armRow
+returns-2 c = rw (sym (c .before .before .classify .ensures) ∙ c .enum-told2 .given .1)
+
+returns-3 : tie.Need-returns-3
+unfolding armRow
+returns-3 c = rw (sym (c .before .before .classify .ensures) ∙ c .enum-told3 .given .1)
+
+returns-4 : tie.Need-returns-4
+unfolding changed armRow
+returns-4 c =
+    rw (sym (c .before .before .before .before .classify .ensures) ∙ c .before .before .enum-told4 .given .1)
+    (ap To (c .pack .ensures ∙ ap (λ (a : Axis). rowOf (armAxis a)) (c .before .unpack .ensures)))
+
+pub arm-spec : {M : Type 1} → statement M
+arm-spec =
+    tie.close
+    (tie.spec
+    classify-requires
+    enum-told
+    enum-told-2
+    enum-told-3
+    enum-told-4
+    unpack-requires
+    pack-requires
+    returns
+    returns-2
+    returns-3
+    returns-4)

@@ -1,0 +1,54 @@
+use mathlib.Core.Path.{_≡_, sym, ap, _∙_}
+use mathlib.Core.Bool.{true, false}
+use Prim.Native.Nat.{ℕ}
+use borrow.Author.Tests.{not-true, not-false}
+use Rattle.integers.proofs.Machine.{back}
+use Rattle.position.specs.Position.{inRange}
+use Rattle.axis.specs.Row.{rowOf}
+use Rattle.axis.specs.declared.row.Axis.{Axis}
+use Rattle.calls.specs.declared.answer.Changed.the-variants.{To}
+use Rattle.calls.specs.Change.{changed, presetAxis}
+use Rattle.calls.specs.Calls.{placeRow}
+use Rattle.calls.proofs.StatusLaws.{packs}
+use borrow.Author.Needs.{needs}
+use Rattle.calls.proofs.change.placed.Statement.{statement}
+use Rattle.calls.proofs.change.placed.Tie as tie
+
+-- the position that was tested
+ok : (c : tie.Else1) → inRange (c .before .before .args .position) ≡ true
+ok c = sym (rw (back (c .before .before .fits .position)) at (c .before .in-range .ensures)) ∙ not-false _ (c .if1 .left)
+
+in-range-requires : tie.Need-in-range-requires
+in-range-requires c κs = search needs
+
+returns : tie.Need-returns
+unfolding placeRow
+returns c = rw (sym (rw (back (c .before .before .fits .position)) at (c .before .in-range .ensures)) ∙ not-true _ (c .if1 .taken))
+
+unpack-requires : tie.Need-unpack-requires
+unpack-requires c κs = search needs
+
+word-of-requires : tie.Need-word-of-requires
+word-of-requires c κs = rw (back (c .before .before .before .fits .position)) (ok (c .before))
+
+pack-requires : tie.Need-pack-requires
+unfolding changed
+pack-requires c κs =
+    let u = c .before .unpack .result in
+    packs u (c .before .before .before .before .args .r) (c .before .unpack .ensures) (c .word-of .result) (u .armed) false false (u .index) (u .doubles) (search needs)
+
+returns-2 : tie.Need-returns-2
+unfolding changed placeRow
+returns-2 c =
+    let p = c .before .before .before .before .before .args .position in
+    let u = c .before .before .unpack in
+    rw (ok (c .before .before .before))
+    (ap To
+    (c .pack .ensures
+    ∙ ap (λ (w : ℕ). rowOf (changed (u .result) w (u .result .armed) false false (u .result .index) (u .result .doubles))) (rw (back (c .before .before .before .before .before .fits .position)) at (c .before .word-of .ensures))
+    ∙ ap (λ (a : Axis). rowOf (presetAxis p a)) (u .ensures)))
+
+pub placed-spec : {M : Type 1} → statement M
+placed-spec =
+    tie.close
+    (tie.spec in-range-requires returns unpack-requires word-of-requires pack-requires returns-2)

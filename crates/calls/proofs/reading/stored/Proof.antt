@@ -1,0 +1,34 @@
+use mathlib.Core.Path.{ap, _∙_}
+use Prim.Native.Nat.{ℕ}
+use Rattle.integers.proofs.Machine.{back}
+use Rattle.axis.specs.Row.{rowOf}
+use Rattle.axis.specs.declared.row.Axis.{Axis}
+use Rattle.calls.specs.Change.{changed, readAxis}
+use Rattle.calls.proofs.StatusLaws.{packs}
+use borrow.Author.Needs.{needs}
+use Rattle.calls.proofs.reading.stored.Statement.{statement}
+use Rattle.calls.proofs.reading.stored.Tie as tie
+
+unpack-requires : tie.Need-unpack-requires
+unpack-requires c κs = search needs
+
+word-of-requires : tie.Need-word-of-requires
+word-of-requires c κs = search needs
+
+pack-requires : tie.Need-pack-requires
+unfolding changed
+pack-requires c κs =
+    let u = c .before .unpack .result in
+    packs u (c .before .before .args .r) (c .before .unpack .ensures) (c .word-of .result) (u .armed) (u .homed) (u .range) (u .index) (u .doubles) (search needs)
+
+returns : tie.Need-returns
+unfolding changed
+returns c =
+    let s = c .before .before .before in
+    let u = c .before .before .unpack in
+    c .pack .ensures
+    ∙ ap (λ (w : ℕ). rowOf (changed (u .result) w (u .result .armed) (u .result .homed) (u .result .range) (u .result .index) (u .result .doubles))) (rw (back (s .fits .position)) at (c .before .word-of .ensures))
+    ∙ ap (λ (a : Axis). rowOf (readAxis (s .args .position) a)) (u .ensures)
+
+pub stored-spec : {M : Type 1} → statement M
+stored-spec = tie.close (tie.spec unpack-requires word-of-requires pack-requires returns)

@@ -1,0 +1,64 @@
+// A reading of a narrow counter: what it answers, and what it makes of the row.
+ghost use mathlib.Core.Path.{_≡_};
+ghost use mathlib.Core.Bool.{true};
+ghost use Rattle.position.specs.Position.{inRange};
+ghost use Rattle.axis.specs.Row.{axisOf, rowOf};
+ghost use Rattle.calls.specs.Change.{readAxis};
+ghost use Rattle.calls.specs.Calls.{Positioned, readingOf, readingRow, readRow};
+use crate::answer::Changed;
+use crate::answer::Taken;
+use axis::pack::pack;
+use axis::row::Row;
+use axis::sound::Status;
+use axis::sound::classify;
+use axis::unpack::unpack;
+use reckon::Reckoned;
+use refusal::Refusal;
+
+// What a reading says of a counter row.
+fn widened(r: Row, reading: u64) -> Reckoned
+    requires { ⌜ Positioned r ⌝ }
+    ensures { λ n. ⌜ n ≡ readingOf reading (axisOf r) ⌝ }
+{
+    let a = unpack(r);
+    reckon::widening::widen(a.width as u64, position::at_word(r.w0), reading)
+}
+
+// What a reading answers.
+fn answer(r: Row, reading: u64) -> Reckoned
+    ensures { λ n. ⌜ n ≡ readingRow reading r ⌝ }
+{
+    match classify(r) {
+        Status::Broken => Reckoned::Refused(Refusal::Broken),
+        Status::Empty => Reckoned::Refused(Refusal::Empty),
+        Status::Sampled => Reckoned::Refused(Refusal::Kind),
+        Status::Counter => widened(r, reading),
+    }
+}
+
+// A row with a position stored.
+fn stored(r: Row, position: i64) -> Row
+    requires { ⌜ Positioned r × (inRange position ≡ true) ⌝ }
+    ensures { λ q. ⌜ q ≡ rowOf (readAxis position (axisOf r)) ⌝ }
+{
+    let mut a = unpack(r);
+    a.word = position::word_of(position);
+    pack(a)
+}
+
+// Reading: the answer, and what becomes of the row.
+pub fn read(r: Row, reading: u64) -> Taken
+    ensures { λ t. ⌜ (t .answer ≡ readingRow reading r) × (t .row ≡ readRow reading r) ⌝ }
+{
+    let said = answer(r, reading);
+    match said {
+        Reckoned::Refused(e) => Taken {
+            answer: said,
+            row: Changed::Kept(e),
+        },
+        Reckoned::Number(position) => Taken {
+            answer: said,
+            row: Changed::To(stored(r, position)),
+        },
+    }
+}
