@@ -1,6 +1,7 @@
 -- What the events of one axis tell, from any four words: a new phase begins with every setup, erase and restore that is accepted, and within a
 -- phase the configuration stays. Events have the newest first.
 use Prim.Native.Nat.{ℕ}
+use mathlib.Core.Path.{_≡_}
 use mathlib.Core.Bool.{Bool, true, false, cond}
 use mathlib.Core.List.{List, [], _∷_}
 use lib.IntN.{ℤ}
@@ -11,15 +12,17 @@ use Rattle.reckon.specs.declared.Reckoned.the-variants.{Number, Refused as Unre
 use Rattle.axis.specs.Config.{goodConfig}
 use Rattle.axis.specs.Row.{axisOf, rowOf, emptyRow, fresh, freshAt}
 use Rattle.axis.specs.Sound.{statusOf}
+use Rattle.axis.specs.declared.config.Config.{Config}
 use Rattle.axis.specs.declared.row.Row.{Row}
 use Rattle.axis.specs.declared.sound.Status.{Status}
 use Rattle.axis.specs.declared.sound.Status.the-variants.{Empty, Sampled, Counter, Broken}
 use Rattle.motion.specs.Lines.{rawOf}
+use Rattle.motion.specs.declared.step.SteppedRow.{SteppedRow}
 use Rattle.record.specs.Record.{readAs}
 use Rattle.record.specs.declared.answer.Read.{Read}
 use Rattle.record.specs.declared.answer.Read.the-variants.{Accepted, Refused as Unread}
 use Rattle.calls.specs.Change.{readAxis}
-use Rattle.history.specs.Acts.{Act, sampled}
+use Rattle.history.specs.Acts.{Act, Legal, sampled}
 use Rattle.history.specs.Acts.{preset as placed, arm as armed, acknowledge as acknowledged}
 use Rattle.history.specs.Entries.{doubleAt}
 use Rattle.history.specs.Levels.{roseAt}
@@ -85,6 +88,19 @@ unfoldable pub phaseOf : Row → List Event → Phase
 phaseOf r [] = begun r
 phaseOf r (e ∷ h) = afterEvent (phaseOf r h) e
 
+-- How a phase begins after a row was given: with that row, with what an erase makes, or with what a setup or a restore does.
+pub data Beginning : Row → Row → Type 0 where
+  given : {r : Row} → Beginning r r
+  erased : {r : Row} → Beginning r emptyRow
+  made : {r : Row} (c : Config) (z : ℤ) → goodConfig (c .kind) (c .depth) (c .width) (c .turn) ≡ true → inRange z ≡ true →
+      Beginning r (rowOf (freshAt c (wordOf z)))
+
+-- What holds of every phase after a row was given: how it began, that its acts were accepted, and that a counter's position is in the range.
+pub record Lawful (r : Row) (p : Phase) : Type 0 where
+  pub began : Beginning r (p .start)
+  pub legal : Legal (p .acts)
+  pub placed : statusOf (p .start) ≡ Counter → inRange (p .place) ≡ true
+
 -- The row that a phase tells, by what it began with.
 unfoldable pub toldBy : Status → Phase → Row
 toldBy Sampled p = rowOf (told (axisOf (p .start)) (p .acts))
@@ -101,6 +117,10 @@ pub record Marks : Type 0 where
   pub double : Bool
   pub index : Bool
   pub broken : Bool
+
+-- The bits of the answer of a sample on a row.
+abbrev pub marksOf : SteppedRow → Marks
+marksOf s = record { double = s .double; index = s .index; broken = s .broken }
 
 -- The bits that a phase tells of a sample: E and the index rise of a sampled axis, broken for a broken row, none for any other.
 unfoldable pub markedBy : Status → Phase → ℕ → Marks
