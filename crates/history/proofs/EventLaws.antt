@@ -1,4 +1,44 @@
--- ---- a row and the phase that tells it
+-- One event more: a row and the phase that tells it stay together.
+use mathlib.Core.Path.{_≡_, refl, sym, _∙_, ap}
+use mathlib.Core.Bool.{Bool, true, false, cond}
+use mathlib.Core.List.{List, [], _∷_}
+use Prim.Native.Nat.{ℕ}
+use native.Mathlib.Omega.{arith}
+use lib.IntN.{ℤ, pos}
+use Rattle.position.specs.Position.{inRange, wordOf}
+use Rattle.position.proofs.PositionLaws.{word-position, position-word, position-in-range}
+use Rattle.refusal.specs.declared.Refusal.{Refusal}
+use Rattle.refusal.specs.declared.Refusal.the-variants.{Kind as KIND}
+use Rattle.reckon.specs.Widening.{widened}
+use Rattle.reckon.specs.declared.Reckoned.{Reckoned}
+use Rattle.reckon.specs.declared.Reckoned.the-variants.{Number, Refused as Unreckoned}
+use Rattle.reckon.proofs.NearestLaws.{nearest}
+use Rattle.axis.specs.Config.{goodConfig}
+use Rattle.axis.specs.Row.{axisOf, rowOf, Words}
+use Rattle.axis.specs.Sound.{statusOf}
+use Rattle.axis.specs.declared.row.Axis.{Axis}
+use Rattle.axis.specs.declared.row.Row.{Row}
+use Rattle.axis.specs.declared.sound.Status.{Status}
+use Rattle.axis.specs.declared.sound.Status.the-variants.{Empty, Sampled, Counter, Broken}
+use Rattle.axis.proofs.SoundLaws.{sampled-gives, counter-gives, packed-again}
+use Rattle.motion.specs.Lines.{rawOf}
+use Rattle.motion.specs.Step.{stepBy, stepRow}
+use Rattle.record.specs.Record.{readAs}
+use Rattle.record.specs.declared.answer.Read.{Read}
+use Rattle.record.specs.declared.answer.Read.the-variants.{Accepted, Refused as Unread}
+use Rattle.record.proofs.RecordLaws.{accepted-within}
+use Rattle.calls.specs.Change.{changed, armAxis, acknowledgeAxis, readAxis}
+use Rattle.calls.specs.Calls.{byStatus, leftBy, configOf, setupRow, eraseRow, placeRow, presetRow, armRow, acknowledgeRow, readingOf, readingRow, storedRow, readRow, restoredBy, restoreRow}
+use Rattle.calls.specs.declared.answer.Changed.the-variants.{To, Kept}
+use Rattle.calls.proofs.SaveLaws.{within-parts}
+use Rattle.history.specs.Acts.{Act, act, sampled, Accepted as Agreed}
+use Rattle.history.specs.Acts.{preset as placed, arm as armed, acknowledge as acknowledged}
+use Rattle.history.specs.Told.{told}
+use Rattle.history.specs.Event.{Op, Event, setup, erase, preset, arm, acknowledge, view, reading, speed, save, restore, bits, asked, rowAfter, rowNext, rowSince}
+use Rattle.history.specs.Phase.{Phase, begun, acted, moved, bySort, readTo, restoredTo, afterCall, afterEvent, phaseOf, Beginning, given, erased, made, Lawful, toldBy, toldRow}
+use Rattle.history.proofs.ToldLaws.{told-first, act-told}
+use Rattle.history.proofs.StartLaws.{start-sound}
+use Rattle.history.proofs.PhaseLaws.{counter-preset, start-words, status-told, axis-sampled, axis-counter}
 
 -- A phase tells a row.
 record Tells (r : Row) (p : Phase) (now : Row) : Type 0 where
@@ -18,7 +58,7 @@ begins {r} {s} words b = record {
 
     go : (t : Status) → statusOf s ≡ t → s ≡ toldBy t (begun s)
     go Empty e = refl
-    go Sampled e = sym (ap rowOf (told-first (axisOf s) (start-sampled (sampled-gives s e))) ∙ again (λ f. let z : _≡_ {A = ℕ} 0 1 = cc in omega arith))
+    go Sampled e = sym (ap rowOf (told-first (axisOf s) (start-sound s e)) ∙ again (λ f. let z : _≡_ {A = ℕ} 0 1 = cc in omega arith))
     go Counter e =
         let c = counter-gives s e in
         sym (ap (λ (w : ℕ). record { w0 = w; w1 = rowOf (axisOf s) .w1; w2 = rowOf (axisOf s) .w2; w3 = s .w3 }) (word-position (s .w0) (c .above) (c .below))
@@ -44,7 +84,7 @@ module _ {r : Row} {p : Phase} {now : Row} (t : Tells r p now) where
         lawful = record { began = l .began; legal = (ok, l .legal); placed = l .placed };
         row =
             rw e (ap (λ (x : Axis). rowOf (act x a)) axis
-            ∙ ap rowOf (act-told (axisOf (p .start)) (start-sampled (sampled-gives (p .start) e)) a (p .acts) (ok, l .legal)));
+            ∙ ap rowOf (act-told (axisOf (p .start)) (start-sound (p .start) e) a (p .acts) (ok, l .legal)));
       }
 
   -- Another position of a counter.
@@ -84,7 +124,7 @@ module _ {r : Row} {p : Phase} {now : Row} (t : Tells r p now) where
 
 module _ {r : Row} (words : Words r) {p : Phase} {now : Row} (t : Tells r p now) where
   -- A call that tests its arguments first: another row and another phase, or none.
-  by-test : (b : Bool) (q : Phase) (s : Row) (e : Refusal) → (b ≡ true → Tells r q s) → Tells r (cond b q p) (kept now (cond b (To s) (Kept e)))
+  by-test : (b : Bool) (q : Phase) (s : Row) (e : Refusal) → (b ≡ true → Tells r q s) → Tells r (cond b q p) (leftBy now (cond b (To s) (Kept e)))
   by-test true q s e f = f refl
   by-test false q s e f = t
 
@@ -98,18 +138,18 @@ module _ {r : Row} (words : Words r) {p : Phase} {now : Row} (t : Tells r p now)
   unfolding afterCall rowAfter presetRow placeRow act
   presets z =
       rw (test-sorts (inRange z) (acted p (placed z)) (moved p z) p (statusOf (p .start)))
-      (by-sort t (λ s. kept now (byStatus Kept (placeRow z now) (placeRow z now) s)) _ _ refl refl
+      (by-sort t (λ s. leftBy now (byStatus Kept (placeRow z now) (placeRow z now) s)) _ _ refl refl
       (λ e. by-test (inRange z) _ _ _ (acts t e (placed z)))
       (λ e. by-test (inRange z) _ _ _ (λ ok. rw (counter-preset (counter-gives now (status-now t ∙ e)) z) (moves t e z ok))))
 
   readings : (x : ℕ) → Tells r (afterCall p (reading x)) (rowAfter now (reading x))
   unfolding afterCall rowAfter readRow readingRow storedRow
   readings x =
-      by-sort t (λ s. kept now (storedRow now (byStatus Unreckoned (Unreckoned KIND) (readingOf x (axisOf now)) s))) p _ refl refl
+      by-sort t (λ s. leftBy now (storedRow now (byStatus Unreckoned (Unreckoned KIND) (readingOf x (axisOf now)) s))) p _ refl refl
       (λ e. t)
       (λ e. rw (reading-told t e x) (go e (widened (axisOf (p .start) .width) (p .place) x) refl))
     where
-      go : statusOf (p .start) ≡ Counter → (a : Reckoned) → widened (axisOf (p .start) .width) (p .place) x ≡ a → Tells r (readTo p a) (kept now (storedRow now a))
+      go : statusOf (p .start) ≡ Counter → (a : Reckoned) → widened (axisOf (p .start) .width) (p .place) x ≡ a → Tells r (readTo p a) (leftBy now (storedRow now a))
       go e (Number z) f = moves t e z (nearest (axisOf (p .start) .width) (p .place) z x f .0)
       go e (Unreckoned c) f = t
 
@@ -117,7 +157,7 @@ module _ {r : Row} (words : Words r) {p : Phase} {now : Row} (t : Tells r p now)
   unfolding afterCall rowAfter restoreRow restoredBy
   restores bytes = go (readAs bytes) refl
     where
-      go : (a : Read) → readAs bytes ≡ a → Tells r (restoredTo p a) (kept now (restoredBy a))
+      go : (a : Read) → readAs bytes ≡ a → Tells r (restoredTo p a) (leftBy now (restoredBy a))
       go (Accepted s) e = let w = within-parts s (accepted-within bytes s e) in begins words (made (s .config) (s .position) (w .0) (w .1))
       go (Unread f) e = t
 
@@ -126,9 +166,9 @@ module _ {r : Row} (words : Words r) {p : Phase} {now : Row} (t : Tells r p now)
   calls (setup kind depth width turn) = sets kind depth width turn
   calls erase = begins words erased
   calls (preset z) = presets z
-  calls arm = by-sort t (λ s. kept now (byStatus Kept (To (rowOf (armAxis (axisOf now)))) (Kept KIND) s)) (acted p armed) p refl refl (λ e. acts t e armed tt) (λ e. t)
+  calls arm = by-sort t (λ s. leftBy now (byStatus Kept (To (rowOf (armAxis (axisOf now)))) (Kept KIND) s)) (acted p armed) p refl refl (λ e. acts t e armed tt) (λ e. t)
   calls acknowledge =
-      by-sort t (λ s. kept now (byStatus Kept (To (rowOf (acknowledgeAxis (axisOf now)))) (Kept KIND) s)) (acted p acknowledged) p refl refl
+      by-sort t (λ s. leftBy now (byStatus Kept (To (rowOf (acknowledgeAxis (axisOf now)))) (Kept KIND) s)) (acted p acknowledged) p refl refl
       (λ e. acts t e acknowledged tt) (λ e. t)
   calls view = t
   calls (reading x) = readings x

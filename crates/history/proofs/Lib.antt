@@ -8,8 +8,9 @@ pub mod PaceLaws
 pub mod PrimeLaws
 pub mod SettleLaws
 pub mod ToldLaws
-pub mod SampledLaws
-pub mod PhaseLaws
 pub mod HistoryLaws
 pub mod StartLaws
 pub mod ShaftLaws
+pub mod SampledLaws
+pub mod PhaseLaws
+pub mod EventLaws
