@@ -28,10 +28,14 @@ unfoldable pub tableAfter : List ℕ → ℕ → Changed → List ℕ
 tableAfter t k (To r) = setRow t k r
 tableAfter t k (Kept e) = t
 
--- What setup, erase, preset, arm, acknowledge and restore promise: t before, u after, and the answer.
-pub record Makes (rule : Row → Changed) (t : List ℕ) (k : ℕ) (u : List ℕ) (a : Done) : Type 0 where
-  pub answer : a ≡ doneOf (ruled rule t k)
-  pub table : u ≡ tableAfter t k (ruled rule t k)
+-- What writing back promises, for what a call makes of row k: t before, u after, and the answer.
+pub record Commits (c : Changed) (t : List ℕ) (k : ℕ) (u : List ℕ) (a : Done) : Type 0 where
+  pub answer : a ≡ doneOf c
+  pub table : u ≡ tableAfter t k c
+
+-- What setup, erase, preset, arm, acknowledge and restore promise, each by its rule: t before, u after, and the answer.
+abbrev pub Makes : (Row → Changed) → List ℕ → ℕ → List ℕ → Done → Type 0
+Makes rule t k u a = Commits (ruled rule t k) t k u a
 
 -- What a view answers.
 abbrev pub viewedIn : List ℕ → ℕ → Viewed

@@ -59,6 +59,11 @@ pub record Below (m : Masks) (k : ℕ) : Type 0 where
   pub index : m .index < 2 ^ k
   pub broken : m .broken < 2 ^ k
 
+-- What a sample of row k alone does: t before, u after, and the row's own outcome.
+pub record SamplesRow (t : List ℕ) (k port : ℕ) (u : List ℕ) (s : SteppedRow) : Type 0 where
+  pub outcome : s ≡ stepAt t (nibble port) k
+  pub table : u ≡ setRow t k (stepAt t (nibble port) k .row)
+
 -- The table after a port sample; one of another length stays.
 unfoldable pub sampledTable : List ℕ → ℕ → List ℕ
 sampledTable t port = sampledTo (axesIn (length t)) t (nibble port)

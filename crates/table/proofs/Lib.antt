@@ -1,0 +1,4 @@
+pub mod TableLaws
+pub mod LocatedLaws
+pub mod PortLaws
+pub mod CallLaws

@@ -1,0 +1,21 @@
+// What a call makes of the named row, written back or not.
+ghost use Prim.Native.Nat.{_+_, _*_, _≤_};
+ghost use lib.ListN.{length};
+ghost use Rattle.table.specs.Call.{Commits};
+use crate::rows::write_row;
+use calls::answer::Changed;
+use calls::answer::Done;
+
+// The row that the call made takes the named one's place, or every word stays.
+pub(crate) fn commit(table: &mut [u64], axis: u64, change: Changed) -> Done
+    requires { ⌜ axis * 4 + 4 ≤ length (now table) ⌝ }
+    ensures { λ r. ⌜ Commits change (now (table .entry)) axis (now (table .exit)) r ⌝ }
+{
+    match change {
+        Changed::Kept(e) => Done::Refused(e),
+        Changed::To(row) => {
+            write_row(table, axis as usize, row);
+            Done::Yes
+        }
+    }
+}

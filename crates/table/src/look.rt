@@ -1,0 +1,27 @@
+// View, and speed by period: the calls that only look.
+ghost use mathlib.Core.Path.{_≡_};
+ghost use Rattle.table.specs.Call.{viewedIn, speedIn};
+use crate::rows::Located;
+use crate::rows::locate;
+use calls::answer::Viewed;
+use reckon::Reckoned;
+
+// What an axis shows: LENGTH, AXIS, BROKEN, EMPTY.
+pub fn view(table: &[u64], axis: u64) -> Viewed
+    ensures { λ v. ⌜ v ≡ viewedIn (now (table .entry)) axis ⌝ }
+{
+    match locate(table, axis) {
+        Located::Refused(e) => Viewed::Refused(e),
+        Located::At(row) => calls::view::view(row),
+    }
+}
+
+// Speed by period, at a rate in samples a second: LENGTH, AXIS, BROKEN, EMPTY, KIND, VALUE, NO PERIOD.
+pub fn speed(table: &[u64], axis: u64, rate: u64) -> Reckoned
+    ensures { λ n. ⌜ n ≡ speedIn rate (now (table .entry)) axis ⌝ }
+{
+    match locate(table, axis) {
+        Located::Refused(e) => Reckoned::Refused(e),
+        Located::At(row) => calls::speed::speed(row, rate),
+    }
+}

@@ -1,0 +1,27 @@
+// Setup and erase, which take any row.
+ghost use Rattle.calls.specs.Calls.{setupRow, eraseRow};
+ghost use Rattle.table.specs.Call.{Makes};
+use crate::commit::commit;
+use crate::rows::Located;
+use crate::rows::locate;
+use calls::answer::Done;
+
+// An axis set up anew: LENGTH, AXIS, VALUE.
+pub fn setup(table: &mut [u64], axis: u64, kind: u64, depth: u64, width: u64, turn: u64) -> Done
+    ensures { λ r. ⌜ Makes (setupRow kind depth width turn) (now (table .entry)) axis (now (table .exit)) r ⌝ }
+{
+    match locate(table, axis) {
+        Located::Refused(e) => Done::Refused(e),
+        Located::At(_) => commit(table, axis, calls::setup::setup(kind, depth, width, turn)),
+    }
+}
+
+// Four zero words: LENGTH, AXIS.
+pub fn erase(table: &mut [u64], axis: u64) -> Done
+    ensures { λ r. ⌜ Makes eraseRow (now (table .entry)) axis (now (table .exit)) r ⌝ }
+{
+    match locate(table, axis) {
+        Located::Refused(e) => Done::Refused(e),
+        Located::At(_) => commit(table, axis, calls::setup::erase()),
+    }
+}
