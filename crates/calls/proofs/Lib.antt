@@ -5,3 +5,4 @@ pub mod SetupLaws
 pub mod SpeedLaws
 pub mod SaveLaws
 pub mod ReasonLaws
+pub mod CounterLaws

@@ -1,7 +1,7 @@
 -- The laws of save and restore.
-use Prim.Native.Nat.{ℕ, _<_, _≤_, _^_}
+use Prim.Native.Nat.{ℕ, _≤_, _^_}
 use native.Mathlib.Omega.{arith}
-use mathlib.Core.Path.{_≡_, refl, sym, ap, subst, _∙_}
+use mathlib.Core.Path.{_≡_, refl, sym, ap, _∙_}
 use mathlib.Core.Bool.{Bool, true, false, cond}
 use mathlib.Core.Logic.{_⊎_, inl, inr, ⊎-elim}
 use mathlib.Core.List.{List, _++_}
@@ -10,17 +10,16 @@ use lib.ListN.{length, take, drop}
 use lib.Seq.{take-append-seam}
 use borrow.Author.Tests.{le-leb, leb-true}
 use Rattle.integers.proofs.Balance.{Tested, yes, no, test}
-use Rattle.position.specs.Position.{inRange, wordOf, positionOf}
+use Rattle.position.specs.Position.{inRange, wordOf}
 use Rattle.position.proofs.PositionLaws.{word-low, word-high, position-in-range, position-word, word-position}
 use Rattle.refusal.specs.declared.Refusal.{Refusal}
-use Rattle.refusal.specs.declared.Refusal.the-variants.{Value as VALUE, Room as ROOM}
+use Rattle.refusal.specs.declared.Refusal.the-variants.{Room as ROOM}
 use Rattle.axis.specs.Kind.{sampledKind}
 use Rattle.axis.specs.Config.{sampledConfig, counterConfig, goodConfig}
 use Rattle.axis.specs.Row.{axisOf, rowOf, fresh, freshAt, Words}
 use Rattle.axis.specs.Sound.{statusOf}
 use Rattle.axis.specs.declared.row.Axis.{Axis}
 use Rattle.axis.specs.declared.row.Row.{Row}
-use Rattle.axis.specs.declared.sound.Status.{Status}
 use Rattle.axis.specs.declared.sound.Status.the-variants.{Sampled, Counter, Broken}
 use Rattle.axis.proofs.TestLaws.{both, either, sampled-config}
 use Rattle.axis.proofs.SoundLaws.{sampled-gives, counter-gives, counter-config, packed-again}
@@ -29,12 +28,10 @@ use Rattle.record.specs.Record.{within, readAs, recordOf, savedAs, written}
 use Rattle.record.specs.declared.answer.Saved.{Saved}
 use Rattle.record.specs.declared.answer.Read.{Read}
 use Rattle.record.specs.declared.answer.Read.the-variants.{Accepted, Refused as Unread}
-use Rattle.record.specs.declared.answer.Written.{Written}
 use Rattle.record.specs.declared.answer.Written.the-variants.{Bytes, Refused as Unwritten}
 use Rattle.record.proofs.RecordLaws.{read-back, one-encoding, accepted-within, saved-front}
 use Rattle.calls.specs.Change.{changed, presetAxis, Holds}
 use Rattle.calls.specs.Calls.{Positioned, byStatus, andThen, placeRow, presetRow, setupRow, savedOf, saveRow, savedIn, restoredBy, restoreRow}
-use Rattle.calls.specs.declared.answer.Changed.{Changed}
 use Rattle.calls.specs.declared.answer.Changed.the-variants.{To, Kept}
 use Rattle.calls.proofs.StatusLaws.{sampled-positioned, counter-positioned, live}
 use Rattle.calls.proofs.ChangeLaws.{to-one, kept-not}
@@ -52,14 +49,14 @@ live-position r (inl e) = sampled-positioned r e
 live-position r (inr e) = counter-positioned r e
 
 -- What a setup makes is one.
-made-live : {q : Row} {b : Bool} → statusOf q ≡ cond b Sampled Counter → Live q
-made-live {q} {true} e = inl e
-made-live {q} {false} e = inr e
+made-live : (q : Row) (b : Bool) → statusOf q ≡ cond b Sampled Counter → Live q
+made-live q true e = inl e
+made-live q false e = inr e
 
 -- A call that does the same on both kinds does that.
-either-kind : {A : Type 0} (refuse : Refusal → A) (x : A) {r : Row} → Live r → byStatus refuse x x (statusOf r) ≡ x
-either-kind refuse x (inl e) = ap (byStatus refuse x x) e
-either-kind refuse x (inr e) = ap (byStatus refuse x x) e
+either-kind : {A : Type 0} (refuse : Refusal → A) (x : A) (r : Row) → Live r → byStatus refuse x x (statusOf r) ≡ x
+either-kind refuse x r (inl e) = ap (byStatus refuse x x) e
+either-kind refuse x r (inr e) = ap (byStatus refuse x x) e
 
 -- What is within its limits is a configuration and a position.
 pub within-parts : (s : Saved) → within s ≡ true →
@@ -95,7 +92,7 @@ restore-is s said r a =
     let parts = within-parts said (accepted-within s said a) in
     let h = config-holds c (2 ^ 62) (parts .0) (lit< tt) (lit< tt) in
     let set : placeRow p (rowOf (fresh c)) ≡ To (rowOf (freshAt c (wordOf p))) = rw (parts .1) (ap (λ (x : Axis). To (rowOf (presetAxis p x))) (h .axis)) in
-    rw (a, parts .0) (sym (either-kind Kept (placeRow p (rowOf (fresh c))) (made-live (h .status)) ∙ set))
+    rw (a, parts .0) (sym (either-kind Kept (placeRow p (rowOf (fresh c))) (rowOf (fresh c)) (made-live (rowOf (fresh c)) (sampledKind (c .kind)) (h .status)) ∙ set))
 
 -- ---- what is saved
 
@@ -128,13 +125,13 @@ module _ (r : Row) (l : Live r) where
   -- HEADLINE: a save of a sampled row or a counter answers the length of its record, or ROOM where the buffer is shorter; never VALUE.
   pub save-answers : (room : ℕ) → saveRow room r ≡ cond (leb (length (bytes r)) room) (Bytes (length (bytes r))) (Unwritten ROOM)
   unfolding saveRow savedAs
-  save-answers room = either-kind Unwritten (savedAs room (savedOf (axisOf r))) l ∙ rw (saved-within r l)
+  save-answers room = either-kind Unwritten (savedAs room (savedOf (axisOf r))) r l ∙ rw (saved-within r l)
 
   -- HEADLINE: it writes that record at the front of the buffer and leaves the rest as it was.
   pub save-front : (b : List ℕ) → length (bytes r) ≤ length b → savedIn b r ≡ bytes r ++ drop (length (bytes r)) b
   unfolding savedIn
   save-front b h =
-      either-kind (λ _. b) (written b (savedOf (axisOf r))) l ∙ saved-front b (savedOf (axisOf r)) (saved-within r l) h
+      either-kind (λ _. b) (written b (savedOf (axisOf r))) r l ∙ saved-front b (savedOf (axisOf r)) (saved-within r l) h
 
 -- A save that is not refused is one of a sampled row or a counter, and answers the length of its record, for which there is room.
 saved-live : (room n : ℕ) (r : Row) → saveRow room r ≡ Bytes n → Live r
@@ -186,7 +183,7 @@ saved-restore s b r q all e room = go (readAs s) refl
     go (Unread f) h = absurd (kept-not q f (sym (restore-refused s f r h) ∙ e))
     go (Accepted said) h =
         let m = restore-makes s said r q h e in
-        let l = made-live (m .status) in
+        let l = made-live q (sampledKind (said .config .kind)) (m .status) in
         let p = within-parts said (accepted-within s said h) .1 in
         let same : bytes q ≡ s = ap (λ (x : Axis). recordOf (savedOf x)) (m .axis) ∙ rw (position-word (said .position) p) (one-encoding s said all h) in
         (save-answers q l (length b) ∙ rw (same, le-leb (length s) (length b) room), rw same at (save-front q l b (rw same room)))

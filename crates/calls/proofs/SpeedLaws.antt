@@ -1,18 +1,16 @@
 -- The laws of speed by period: each answer exactly where it is due, and how near a speed is.
-use Prim.Native.Nat.{ℕ, zero, suc, _*_, _^_, _<_, _≤_, max}
+use Prim.Native.Nat.{ℕ, zero, suc, _*_, _^_, _<_, _≤_}
 use native.Mathlib.Omega.{arith}
-use mathlib.Core.Path.{_≡_, refl, sym, ap, _∙_}
+use mathlib.Core.Path.{_≡_, refl, sym}
 use mathlib.Core.Logic.{_⊎_, inl, inr, ⊎-elim}
 use mathlib.Core.Bool.{Bool, true, false, cond}
 use lib.Dec.{eqb}
 use lib.IntN.{ℤ, pos, negsuc, natAbs, _-ℤ_, _*ℤ_}
 use borrow.Author.Tests.{eq-eqb, ne-eqb, le-leb, lt-ltb}
 use Rattle.integers.proofs.Balance.{Tested, yes, no, test}
-use Rattle.refusal.specs.declared.Refusal.{Refusal}
 use Rattle.refusal.specs.declared.Refusal.the-variants.{Kind as KIND, Value as VALUE, NoPeriod as NO-PERIOD}
 use Rattle.reckon.specs.Rounding.{rounded}
 use Rattle.reckon.specs.Speed.{goodCount, goodSamples, goodRate, speedByCount}
-use Rattle.reckon.specs.declared.Reckoned.{Reckoned}
 use Rattle.reckon.specs.declared.Reckoned.the-variants.{Number, Refused}
 use Rattle.reckon.proofs.SpeedLaws.{good-speed, speed-near}
 use Rattle.axis.specs.Row.{axisOf}

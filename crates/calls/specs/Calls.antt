@@ -1,6 +1,6 @@
 -- What each call makes of the named row, and answers: document 01, "Calls that name one axis" and "The saved record".
 use Prim.Native.Nat.{ℕ, _<_, _^_, max}
-use mathlib.Core.Bool.{Bool, cond}
+use mathlib.Core.Bool.{cond}
 use mathlib.Core.List.{List}
 use lib.Dec.{eqb}
 use lib.IntN.{ℤ, pos, negsuc}
