@@ -14,7 +14,7 @@ use Rattle.reckon.specs.declared.Reckoned.{Reckoned}
 use Rattle.reckon.specs.declared.Reckoned.the-variants.{Number, Refused as Unreckoned}
 use Rattle.reckon.proofs.NearestLaws.{nearest}
 use Rattle.axis.specs.Config.{goodConfig}
-use Rattle.axis.specs.Row.{axisOf, rowOf, Words}
+use Rattle.axis.specs.Row.{axisOf, word1Of, word2Of, rowOf, Words}
 use Rattle.axis.specs.Sound.{statusOf}
 use Rattle.axis.specs.declared.row.Axis.{Axis}
 use Rattle.axis.specs.declared.row.Row.{Row}
@@ -27,7 +27,7 @@ use Rattle.record.specs.Record.{readAs}
 use Rattle.record.specs.declared.answer.Read.{Read}
 use Rattle.record.specs.declared.answer.Read.the-variants.{Accepted, Refused as Unread}
 use Rattle.record.proofs.RecordLaws.{accepted-within}
-use Rattle.calls.specs.Change.{changed, armAxis, acknowledgeAxis, readAxis}
+use Rattle.calls.specs.Change.{changed, readAxis}
 use Rattle.calls.specs.Calls.{byStatus, leftBy, configOf, setupRow, eraseRow, placeRow, presetRow, armRow, acknowledgeRow, readingOf, readingRow, storedRow, readRow, restoredBy, restoreRow}
 use Rattle.calls.specs.declared.answer.Changed.the-variants.{To, Kept}
 use Rattle.calls.proofs.SaveLaws.{within-parts}
@@ -38,32 +38,12 @@ use Rattle.history.specs.Event.{Op, Event, setup, erase, preset, arm, ac
 use Rattle.history.specs.Phase.{Phase, begun, acted, moved, bySort, readTo, restoredTo, afterCall, afterEvent, phaseOf, Beginning, given, erased, made, Lawful, toldBy, toldRow}
 use Rattle.history.proofs.ToldLaws.{told-first, act-told}
 use Rattle.history.proofs.StartLaws.{start-sound}
-use Rattle.history.proofs.PhaseLaws.{counter-preset, start-words, status-told, axis-sampled, axis-counter}
+use Rattle.history.proofs.PhaseLaws.{counter-preset, start-words, told-holds, axis-sampled, axis-counter}
 
 -- A phase tells a row.
-record Tells (r : Row) (p : Phase) (now : Row) : Type 0 where
-  lawful : Lawful r p
-  row : now ≡ toldRow p
-
--- A phase that has just begun tells the row that it began with.
-begins : {r s : Row} → Words r → Beginning r s → Tells r (begun s) s
-unfolding toldRow toldBy changed
-begins {r} {s} words b = record {
-  lawful = record { began = b; legal = tt; placed = λ e. let c = counter-gives s e in position-in-range (s .w0) (c .above) (c .below) };
-  row = go (statusOf s) refl;
-}
-  where
-    again : (statusOf s ≡ Broken → ⊥) → rowOf (axisOf s) ≡ s
-    again = packed-again s (start-words words b)
-
-    go : (t : Status) → statusOf s ≡ t → s ≡ toldBy t (begun s)
-    go Empty e = refl
-    go Sampled e = sym (ap rowOf (told-first (axisOf s) (start-sound s e)) ∙ again (λ f. let z : _≡_ {A = ℕ} 0 1 = cc in omega arith))
-    go Counter e =
-        let c = counter-gives s e in
-        sym (ap (λ (w : ℕ). record { w0 = w; w1 = rowOf (axisOf s) .w1; w2 = rowOf (axisOf s) .w2; w3 = s .w3 }) (word-position (s .w0) (c .above) (c .below))
-        ∙ again (λ f. let z : _≡_ {A = ℕ} 0 1 = cc in omega arith))
-    go Broken e = refl
+pub record Tells (r : Row) (p : Phase) (now : Row) : Type 0 where
+  pub lawful : Lawful r p
+  pub row : now ≡ toldRow p
 
 -- A test before the sorts is a test in each.
 test-sorts : (b : Bool) (q u p : Phase) (s : Status) → cond b (bySort q u s p) p ≡ bySort (cond b q p) (cond b u p) s p
@@ -73,115 +53,144 @@ test-sorts false q u p Sampled = refl
 test-sorts false q u p Counter = refl
 test-sorts false q u p Broken = refl
 
-module _ {r : Row} {p : Phase} {now : Row} (t : Tells r p now) where
-  -- One act more on a sampled row.
-  acts : statusOf (p .start) ≡ Sampled → (a : Act) → Agreed a → Tells r (acted p a) (rowOf (act (axisOf now) a))
-  unfolding toldRow toldBy
-  acts e a ok =
-      let l = t .lawful in
-      let axis : axisOf now ≡ told (axisOf (p .start)) (p .acts) = ap axisOf (t .row) ∙ axis-sampled l e in
-      record {
-        lawful = record { began = l .began; legal = (ok, l .legal); placed = l .placed };
-        row =
-            rw e (ap (λ (x : Axis). rowOf (act x a)) axis
-            ∙ ap rowOf (act-told (axisOf (p .start)) (start-sound (p .start) e) a (p .acts) (ok, l .legal)));
-      }
-
-  -- Another position of a counter.
-  reading-told : statusOf (p .start) ≡ Counter → (x : ℕ) → readingOf x (axisOf now) ≡ widened (axisOf (p .start) .width) (p .place) x
-  unfolding changed
-  reading-told e x =
-      ap (readingOf x) (ap axisOf (t .row) ∙ axis-counter (t .lawful) e)
-      ∙ ap (λ (z : ℤ). widened (axisOf (p .start) .width) z x) (position-word (p .place) (t .lawful .placed e))
-
-  moves : statusOf (p .start) ≡ Counter → (z : ℤ) → inRange z ≡ true → Tells r (moved p z) (rowOf (readAxis z (axisOf now)))
+module _ {r : Row} (words : Words r) where
+  -- A phase that has just begun tells the row that it began with.
+  begins : {s : Row} → Beginning r s → Tells r (begun s) s
   unfolding toldRow toldBy changed
-  moves e z ok =
-      let l = t .lawful in
-      let axis : axisOf now ≡ readAxis (p .place) (axisOf (p .start)) = ap axisOf (t .row) ∙ axis-counter l e in
-      record {
-        lawful = record { began = l .began; legal = l .legal; placed = λ _. ok };
-        row = rw e (ap (λ (x : Axis). rowOf (readAxis z x)) axis);
-      }
-
-  status-now : statusOf now ≡ statusOf (p .start)
-  status-now = ap statusOf (t .row) ∙ status-told (t .lawful)
-
-  -- What goes by the row's status, and leaves an empty and a broken row.
-  by-sort : (next : Status → Row) (sampledOne counterOne : Phase) → next Empty ≡ now → next Broken ≡ now →
-      (statusOf (p .start) ≡ Sampled → Tells r sampledOne (next Sampled)) →
-      (statusOf (p .start) ≡ Counter → Tells r counterOne (next Counter)) →
-      Tells r (bySort sampledOne counterOne (statusOf (p .start)) p) (next (statusOf now))
-  by-sort next sampledOne counterOne empty broken onSampled onCounter = rw status-now (go (statusOf (p .start)) refl)
+  begins {s} b = record {
+    lawful = record { began = b; legal = tt; placed = λ e. let c = counter-gives s e in position-in-range (s .w0) (c .above) (c .below) };
+    row = go (statusOf s) refl;
+  }
     where
-      go : (s : Status) → statusOf (p .start) ≡ s → Tells r (bySort sampledOne counterOne s p) (next s)
-      go Empty e = rw empty t
-      go Sampled e = onSampled e
-      go Counter e = onCounter e
-      go Broken e = rw broken t
+      again : (statusOf s ≡ Broken → ⊥) → rowOf (axisOf s) ≡ s
+      again = packed-again s (start-words words b)
 
--- ---- one event more
+      go : (t : Status) → statusOf s ≡ t → s ≡ toldBy t (begun s)
+      go Empty e = refl
+      go Sampled e = sym (ap rowOf (told-first (axisOf s) (start-sound s e)) ∙ again (λ f. let z : _≡_ {A = ℕ} 0 1 = cc in omega arith))
+      go Counter e =
+          let c = counter-gives s e in
+          sym (ap (λ (w : ℕ). record { w0 = w; w1 = word1Of (axisOf s); w2 = word2Of (axisOf s); w3 = s .w3 }) (word-position (s .w0) (c .above) (c .below))
+          ∙ again (λ f. let z : _≡_ {A = ℕ} 0 1 = cc in omega arith))
+      go Broken e = refl
 
-module _ {r : Row} (words : Words r) {p : Phase} {now : Row} (t : Tells r p now) where
-  -- A call that tests its arguments first: another row and another phase, or none.
-  by-test : (b : Bool) (q : Phase) (s : Row) (e : Refusal) → (b ≡ true → Tells r q s) → Tells r (cond b q p) (leftBy now (cond b (To s) (Kept e)))
-  by-test true q s e f = f refl
-  by-test false q s e f = t
+  module _ {p : Phase} {now : Row} (t : Tells r p now) where
+    status-now : statusOf now ≡ statusOf (p .start)
+    status-now = ap statusOf (t .row) ∙ told-holds (t .lawful) words .status
 
-  sets : (kind depth width turn : ℕ) → Tells r (afterCall p (setup kind depth width turn)) (rowAfter now (setup kind depth width turn))
-  unfolding afterCall rowAfter setupRow wordOf inRange
-  sets kind depth width turn =
-      by-test (goodConfig kind depth width turn) _ _ _
-      (λ good. begins words (made (configOf kind depth width turn) (pos 0) good refl))
+    sampled-now : statusOf (p .start) ≡ Sampled → axisOf now ≡ told (axisOf (p .start)) (p .acts)
+    sampled-now e = ap axisOf (t .row) ∙ axis-sampled (t .lawful) e
 
-  presets : (z : ℤ) → Tells r (afterCall p (preset z)) (rowAfter now (preset z))
-  unfolding afterCall rowAfter presetRow placeRow act
-  presets z =
-      rw (test-sorts (inRange z) (acted p (placed z)) (moved p z) p (statusOf (p .start)))
-      (by-sort t (λ s. leftBy now (byStatus Kept (placeRow z now) (placeRow z now) s)) _ _ refl refl
-      (λ e. by-test (inRange z) _ _ _ (acts t e (placed z)))
-      (λ e. by-test (inRange z) _ _ _ (λ ok. rw (counter-preset (counter-gives now (status-now t ∙ e)) z) (moves t e z ok))))
+    counter-now : statusOf (p .start) ≡ Counter → axisOf now ≡ readAxis (p .place) (axisOf (p .start))
+    counter-now e = ap axisOf (t .row) ∙ axis-counter (t .lawful) e
 
-  readings : (x : ℕ) → Tells r (afterCall p (reading x)) (rowAfter now (reading x))
-  unfolding afterCall rowAfter readRow readingRow storedRow
-  readings x =
-      by-sort t (λ s. leftBy now (storedRow now (byStatus Unreckoned (Unreckoned KIND) (readingOf x (axisOf now)) s))) p _ refl refl
-      (λ e. t)
-      (λ e. rw (reading-told t e x) (go e (widened (axisOf (p .start) .width) (p .place) x) refl))
-    where
-      go : statusOf (p .start) ≡ Counter → (a : Reckoned) → widened (axisOf (p .start) .width) (p .place) x ≡ a → Tells r (readTo p a) (leftBy now (storedRow now a))
-      go e (Number z) f = moves t e z (nearest (axisOf (p .start) .width) (p .place) z x f .0)
-      go e (Unreckoned c) f = t
+    -- One act more on a sampled row.
+    acts : (a : Act) → Agreed a → statusOf (p .start) ≡ Sampled → Tells r (acted p a) (rowOf (act (axisOf now) a))
+    unfolding toldRow toldBy
+    acts a ok e =
+        let l = t .lawful in
+        record {
+          lawful = record { began = l .began; legal = (ok, l .legal); placed = l .placed };
+          row =
+              rw e (ap (λ (x : Axis). rowOf (act x a)) (sampled-now e)
+              ∙ ap rowOf (act-told (axisOf (p .start)) (start-sound (p .start) e) a (p .acts) (ok, l .legal)));
+        }
 
-  restores : (bytes : List ℕ) → Tells r (afterCall p (restore bytes)) (rowAfter now (restore bytes))
-  unfolding afterCall rowAfter restoreRow restoredBy
-  restores bytes = go (readAs bytes) refl
-    where
-      go : (a : Read) → readAs bytes ≡ a → Tells r (restoredTo p a) (leftBy now (restoredBy a))
-      go (Accepted s) e = let w = within-parts s (accepted-within bytes s e) in begins words (made (s .config) (s .position) (w .0) (w .1))
-      go (Unread f) e = t
+    -- Another position of a counter.
+    moves : (z : ℤ) → inRange z ≡ true → statusOf (p .start) ≡ Counter → Tells r (moved p z) (rowOf (readAxis z (axisOf now)))
+    unfolding toldRow toldBy changed
+    moves z ok e =
+        let l = t .lawful in
+        record {
+          lawful = record { began = l .began; legal = l .legal; placed = λ _. ok };
+          row = rw e (ap (λ (x : Axis). rowOf (readAxis z x)) (counter-now e));
+        }
 
-  calls : (o : Op) → Tells r (afterCall p o) (rowAfter now o)
-  unfolding afterCall rowAfter eraseRow armRow acknowledgeRow act
-  calls (setup kind depth width turn) = sets kind depth width turn
-  calls erase = begins words erased
-  calls (preset z) = presets z
-  calls arm = by-sort t (λ s. leftBy now (byStatus Kept (To (rowOf (armAxis (axisOf now)))) (Kept KIND) s)) (acted p armed) p refl refl (λ e. acts t e armed tt) (λ e. t)
-  calls acknowledge =
-      by-sort t (λ s. leftBy now (byStatus Kept (To (rowOf (acknowledgeAxis (axisOf now)))) (Kept KIND) s)) (acted p acknowledged) p refl refl
-      (λ e. acts t e acknowledged tt) (λ e. t)
-  calls view = t
-  calls (reading x) = readings x
-  calls (speed rate) = t
-  calls (save buffer) = t
-  calls (restore bytes) = restores bytes
+    -- What a reading says of the row, it says of the phase's place.
+    reading-told : (x : ℕ) → statusOf (p .start) ≡ Counter → readingOf x (axisOf now) ≡ widened (axisOf (p .start) .width) (p .place) x
+    unfolding changed
+    reading-told x e =
+        ap (readingOf x) (counter-now e)
+        ∙ ap (λ (z : ℤ). widened (axisOf (p .start) .width) z x) (position-word (p .place) (t .lawful .placed e))
 
-  events : (e : Event) → Tells r (afterEvent p e) (rowNext now e)
-  unfolding afterEvent rowNext stepRow stepBy act
-  events (bits n) = by-sort t (λ s. stepBy s now n .row) (acted p (sampled (rawOf n))) p refl refl (λ e. acts t e (sampled (rawOf n)) tt) (λ e. t)
-  events (asked o) = calls o
+    -- What goes by the row's status, and leaves an empty and a broken row.
+    by-sort : (next : Status → Row) (sampledOne counterOne : Phase) → next Empty ≡ now → next Broken ≡ now →
+        (statusOf (p .start) ≡ Sampled → Tells r sampledOne (next Sampled)) →
+        (statusOf (p .start) ≡ Counter → Tells r counterOne (next Counter)) →
+        Tells r (bySort sampledOne counterOne (statusOf (p .start)) p) (next (statusOf now))
+    by-sort next sampledOne counterOne empty broken onSampled onCounter = rw status-now (go (statusOf (p .start)) refl)
+      where
+        go : (s : Status) → statusOf (p .start) ≡ s → Tells r (bySort sampledOne counterOne s p) (next s)
+        go Empty e = rw empty t
+        go Sampled e = onSampled e
+        go Counter e = onCounter e
+        go Broken e = rw broken t
 
-tells : {r : Row} → Words r → (h : List Event) → Tells r (phaseOf r h) (rowSince r h)
-unfolding phaseOf rowSince
-tells words [] = begins words given
-tells words (e ∷ h) = events words (tells words h) e
+    -- What goes by a test of the arguments: another row and another phase, or neither.
+    by-test : (b : Bool) (q : Phase) (s : Row) (e : Refusal) → (b ≡ true → Tells r q s) → Tells r (cond b q p) (leftBy now (cond b (To s) (Kept e)))
+    by-test true q s e f = f refl
+    by-test false q s e f = t
+
+    -- ---- the events
+
+    sets : (kind depth width turn : ℕ) → Tells r (afterCall p (setup kind depth width turn)) (rowAfter now (setup kind depth width turn))
+    unfolding afterCall rowAfter setupRow wordOf inRange
+    sets kind depth width turn =
+        by-test (goodConfig kind depth width turn) _ _ _ (λ good. begins (made (configOf kind depth width turn) (pos 0) good refl))
+
+    presets : (z : ℤ) → Tells r (afterCall p (preset z)) (rowAfter now (preset z))
+    unfolding afterCall rowAfter presetRow placeRow act
+    presets z =
+        rw (test-sorts (inRange z) (acted p (placed z)) (moved p z) p (statusOf (p .start)))
+        (by-sort (λ s. leftBy now (byStatus Kept (placeRow z now) (placeRow z now) s)) _ _ refl refl
+        (λ e. by-test (inRange z) _ _ _ (λ ok. acts (placed z) ok e))
+        (λ e. by-test (inRange z) _ _ _ (λ ok. rw (counter-preset (counter-gives now (status-now ∙ e)) z) (moves z ok e))))
+
+    -- A call on sampled rows only.
+    sampled-only : (a : Act) → Agreed a →
+        Tells r (bySort (acted p a) p (statusOf (p .start)) p) (leftBy now (byStatus Kept (To (rowOf (act (axisOf now) a))) (Kept KIND) (statusOf now)))
+    sampled-only a ok =
+        by-sort (λ s. leftBy now (byStatus Kept (To (rowOf (act (axisOf now) a))) (Kept KIND) s)) (acted p a) p refl refl (acts a ok) (λ e. t)
+
+    readings : (x : ℕ) → Tells r (afterCall p (reading x)) (rowAfter now (reading x))
+    unfolding afterCall rowAfter readRow readingRow storedRow
+    readings x =
+        by-sort (λ s. leftBy now (storedRow now (byStatus Unreckoned (Unreckoned KIND) (readingOf x (axisOf now)) s))) p _ refl refl (λ e. t)
+        (λ e. rw (reading-told x e) (go e (widened (axisOf (p .start) .width) (p .place) x) refl))
+      where
+        go : statusOf (p .start) ≡ Counter → (a : Reckoned) → widened (axisOf (p .start) .width) (p .place) x ≡ a →
+            Tells r (readTo p a) (leftBy now (storedRow now a))
+        go e (Number z) f = moves z (nearest (axisOf (p .start) .width) (p .place) z x f .0) e
+        go e (Unreckoned c) f = t
+
+    restores : (bytes : List ℕ) → Tells r (afterCall p (restore bytes)) (rowAfter now (restore bytes))
+    unfolding afterCall rowAfter restoreRow restoredBy
+    restores bytes = go (readAs bytes) refl
+      where
+        go : (a : Read) → readAs bytes ≡ a → Tells r (restoredTo p a) (leftBy now (restoredBy a))
+        go (Accepted s) e = let w = within-parts s (accepted-within bytes s e) in begins (made (s .config) (s .position) (w .0) (w .1))
+        go (Unread f) e = t
+
+    calls : (o : Op) → Tells r (afterCall p o) (rowAfter now o)
+    unfolding afterCall rowAfter eraseRow armRow acknowledgeRow act
+    calls (setup kind depth width turn) = sets kind depth width turn
+    calls erase = begins erased
+    calls (preset z) = presets z
+    calls arm = sampled-only armed tt
+    calls acknowledge = sampled-only acknowledged tt
+    calls view = t
+    calls (reading x) = readings x
+    calls (speed rate) = t
+    calls (save buffer) = t
+    calls (restore bytes) = restores bytes
+
+    events : (e : Event) → Tells r (afterEvent p e) (rowNext now e)
+    unfolding afterEvent rowNext stepRow stepBy act
+    events (bits n) = by-sort (λ s. stepBy s now n .row) (acted p (sampled (rawOf n))) p refl refl (acts (sampled (rawOf n)) tt) (λ e. t)
+    events (asked o) = calls o
+
+  -- HEADLINE: the phase after any events tells the row after them.
+  pub tells : (h : List Event) → Tells r (phaseOf r h) (rowSince r h)
+  unfolding phaseOf rowSince
+  tells [] = begins given
+  tells (e ∷ h) = events (tells h) e

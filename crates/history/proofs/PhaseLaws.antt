@@ -38,27 +38,16 @@ module _ {r : Row} {p : Phase} (l : Lawful r p) where
   counter-row : statusOf (p .start) ≡ Counter → Holds (rowOf (readAxis (p .place) x)) Counter (readAxis (p .place) x)
   counter-row e = counter-holds (readAxis (p .place) x) (read-kept x (p .place) (l .placed e) (counter-gives (p .start) e))
 
-  -- Its status is that of the row that the phase began with.
-  pub status-told : statusOf (toldRow p) ≡ statusOf (p .start)
+  -- Its status is that of the row that the phase began with, and its words are words of 64 bits.
+  pub told-holds : Words r → Holds (toldRow p) (statusOf (p .start)) (axisOf (toldRow p))
   unfolding toldRow toldBy
-  status-told = go (statusOf (p .start)) refl
+  told-holds words = go (statusOf (p .start)) refl
     where
-      go : (s : Status) → statusOf (p .start) ≡ s → statusOf (toldBy s p) ≡ s
-      go Empty e = e
-      go Sampled e = sampled-row e .status
-      go Counter e = counter-row e .status
-      go Broken e = e
-
-  -- Its words are words of 64 bits.
-  pub words-told : Words r → Words (toldRow p)
-  unfolding toldRow toldBy
-  words-told words = go (statusOf (p .start)) refl
-    where
-      go : (s : Status) → statusOf (p .start) ≡ s → Words (toldBy s p)
-      go Empty e = start-words words (l .began)
-      go Sampled e = sampled-row e .words
-      go Counter e = counter-row e .words
-      go Broken e = start-words words (l .began)
+      go : (s : Status) → statusOf (p .start) ≡ s → Holds (toldBy s p) s (axisOf (toldBy s p))
+      go Empty e = record { status = e; axis = refl; words = start-words words (l .began) }
+      go Sampled e = let q = sampled-row e in record { status = q .status; axis = refl; words = q .words }
+      go Counter e = let q = counter-row e in record { status = q .status; axis = refl; words = q .words }
+      go Broken e = record { status = e; axis = refl; words = start-words words (l .began) }
 
   -- Its axis is the one that the acts tell.
   pub axis-sampled : statusOf (p .start) ≡ Sampled → axisOf (toldRow p) ≡ told (axisOf (p .start)) (p .acts)

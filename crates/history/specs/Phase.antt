@@ -88,6 +88,30 @@ unfoldable pub phaseOf : Row → List Event → Phase
 phaseOf r [] = begun r
 phaseOf r (e ∷ h) = afterEvent (phaseOf r h) e
 
+-- Whether a record is accepted.
+abbrev pub isRead : Read → Bool
+isRead (Accepted s) = true
+isRead (Unread e) = false
+
+-- Whether an event begins a phase: an erase, and a setup or a restore that is accepted.
+unfoldable pub begins : Event → Bool
+begins (bits n) = false
+begins (asked (setup kind depth width turn)) = goodConfig kind depth width turn
+begins (asked erase) = true
+begins (asked (preset z)) = false
+begins (asked arm) = false
+begins (asked acknowledge) = false
+begins (asked view) = false
+begins (asked (reading x)) = false
+begins (asked (speed rate)) = false
+begins (asked (save buffer)) = false
+begins (asked (restore bytes)) = isRead (readAs bytes)
+
+-- None of some events begins a phase.
+abbrev pub Lasting : List Event → Type 0
+Lasting [] = Unit {0}
+Lasting (e ∷ h) = (begins e ≡ false) × Lasting h
+
 -- How a phase begins after a row was given: with that row, with what an erase makes, or with what a setup or a restore does.
 pub data Beginning : Row → Row → Type 0 where
   given : {r : Row} → Beginning r r
