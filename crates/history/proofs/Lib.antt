@@ -14,3 +14,5 @@ pub mod ShaftLaws
 pub mod SampledLaws
 pub mod PhaseLaws
 pub mod EventLaws
+pub mod RowHistory
+pub mod LastingLaws
