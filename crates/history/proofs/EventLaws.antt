@@ -107,7 +107,7 @@ module _ {r : Row} (words : Words r) where
         }
 
     -- What a reading says of the row, it says of the phase's place.
-    reading-told : (x : ℕ) → statusOf (p .start) ≡ Counter → readingOf x (axisOf now) ≡ widened (axisOf (p .start) .width) (p .place) x
+    pub reading-told : (x : ℕ) → statusOf (p .start) ≡ Counter → readingOf x (axisOf now) ≡ widened (axisOf (p .start) .width) (p .place) x
     unfolding changed
     reading-told x e =
         ap (readingOf x) (counter-now e)

@@ -11,3 +11,4 @@ pub mod Told
 pub mod Shaft
 pub mod Event
 pub mod Phase
+pub mod Counter

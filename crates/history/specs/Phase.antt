@@ -13,6 +13,7 @@ use Rattle.axis.specs.Config.{goodConfig}
 use Rattle.axis.specs.Row.{axisOf, rowOf, emptyRow, fresh, freshAt}
 use Rattle.axis.specs.Sound.{statusOf}
 use Rattle.axis.specs.declared.config.Config.{Config}
+use Rattle.axis.specs.declared.row.Axis.{Axis}
 use Rattle.axis.specs.declared.row.Row.{Row}
 use Rattle.axis.specs.declared.sound.Status.{Status}
 use Rattle.axis.specs.declared.sound.Status.the-variants.{Empty, Sampled, Counter, Broken}
@@ -87,6 +88,14 @@ afterEvent p (asked o) = afterCall p o
 unfoldable pub phaseOf : Row → List Event → Phase
 phaseOf r [] = begun r
 phaseOf r (e ∷ h) = afterEvent (phaseOf r h) e
+
+-- The axis that the phase after events began with.
+abbrev pub startAxis : Row → List Event → Axis
+startAxis r h = axisOf (phaseOf r h .start)
+
+-- What has happened to it since.
+abbrev pub actsSince : Row → List Event → List Act
+actsSince r h = phaseOf r h .acts
 
 -- Whether a record is accepted.
 abbrev pub isRead : Read → Bool
