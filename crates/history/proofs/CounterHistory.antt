@@ -4,7 +4,7 @@ use mathlib.Core.Bool.{true, true≢false}
 use mathlib.Core.List.{List, _∷_}
 use Prim.Native.Nat.{ℕ}
 use lib.IntN.{ℤ, pos}
-use Rattle.position.specs.Position.{inRange, wordOf, positionOf}
+use Rattle.position.specs.Position.{inRange, positionOf}
 use Rattle.position.proofs.PositionLaws.{position-word}
 use Rattle.reckon.specs.Widening.{widened}
 use Rattle.reckon.specs.declared.Reckoned.the-variants.{Number}
@@ -22,7 +22,7 @@ use Rattle.record.specs.declared.answer.Read.the-variants.{Accepted}
 use Rattle.record.proofs.RecordLaws.{accepted-within}
 use Rattle.calls.specs.Change.{changed}
 use Rattle.calls.specs.Calls.{leftBy, armRow, acknowledgeRow, readRow}
-use Rattle.calls.specs.Counter.{newest, shown, rowRead, Gentle, still, moved}
+use Rattle.calls.specs.Counter.{newest, shown, rowRead, Gentle, moved}
 use Rattle.calls.proofs.SaveLaws.{within-parts}
 use Rattle.calls.proofs.CounterLaws.{counter-follows, counter-position}
 use Rattle.history.specs.Event.{Event, setup, erase, preset, arm, acknowledge, view, reading, speed, save, restore, bits, asked, rowAfter, rowNext, rowSince}

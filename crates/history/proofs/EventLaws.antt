@@ -20,7 +20,7 @@ use Rattle.axis.specs.declared.row.Axis.{Axis}
 use Rattle.axis.specs.declared.row.Row.{Row}
 use Rattle.axis.specs.declared.sound.Status.{Status}
 use Rattle.axis.specs.declared.sound.Status.the-variants.{Empty, Sampled, Counter, Broken}
-use Rattle.axis.proofs.SoundLaws.{sampled-gives, counter-gives, packed-again}
+use Rattle.axis.proofs.SoundLaws.{counter-gives, packed-again}
 use Rattle.motion.specs.Lines.{rawOf}
 use Rattle.motion.specs.Step.{stepBy, stepRow}
 use Rattle.record.specs.Record.{readAs}

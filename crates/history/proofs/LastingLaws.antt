@@ -1,7 +1,7 @@
 -- What lasts: what a refused call, a sample on a row that is not sampled, and events that begin no phase leave as it was.
-use mathlib.Core.Path.{_≡_, refl, sym, _∙_, ap}
+use mathlib.Core.Path.{_≡_, refl, sym, _∙_, ap, subst}
 use mathlib.Core.Bool.{Bool, true, false, cond, true≢false}
-use mathlib.Core.List.{List, [], _∷_}
+use mathlib.Core.List.{List, [], _∷_, _++_, append-nil}
 use Prim.Native.Nat.{ℕ}
 use Rattle.position.specs.Position.{inRange}
 use Rattle.refusal.specs.declared.Refusal.{Refusal}
@@ -13,6 +13,7 @@ use Rattle.axis.specs.Sound.{statusOf}
 use Rattle.axis.specs.declared.row.Row.{Row}
 use Rattle.axis.specs.declared.sound.Status.{Status}
 use Rattle.axis.specs.declared.sound.Status.the-variants.{Empty, Sampled, Counter, Broken}
+use Rattle.motion.specs.After.{Configured}
 use Rattle.motion.specs.Step.{stepBy, stepRow}
 use Rattle.motion.proofs.RowLaws.{broken-stays}
 use Rattle.record.specs.Record.{readAs}
@@ -20,8 +21,9 @@ use Rattle.record.specs.declared.answer.Read.{Read}
 use Rattle.record.specs.declared.answer.Read.the-variants.{Accepted, Refused as Unread}
 use Rattle.calls.specs.Calls.{leftBy, storedRow, readRow}
 use Rattle.history.specs.Event.{Op, Event, setup, erase, preset, arm, acknowledge, view, reading, speed, save, restore, bits, asked, rowAfter, Refused, rowNext, rowSince}
-use Rattle.history.specs.Phase.{Phase, acted, moved, bySort, readTo, restoredTo, afterCall, afterEvent, phaseOf, isRead, begins, Lasting, toldBy, toldRow, Marks, marksOf}
-use Rattle.history.proofs.RowHistory.{row-history, status-history}
+use Rattle.history.specs.Phase.{Phase, moved, bySort, readTo, restoredTo, afterCall, afterEvent, phaseOf, isRead, begins, Lasting, toldBy, toldRow, marksOf}
+use Rattle.history.proofs.PhaseLaws.{told-configured}
+use Rattle.history.proofs.RowHistory.{phase-lawful, row-history, status-history}
 
 -- ---- one event
 
@@ -87,16 +89,27 @@ module _ (p : Phase) where
   start-next (asked (save buffer)) q = refl
   start-next (asked (restore bytes)) q = restored-start (readAs bytes) q
 
--- HEADLINE: events that begin no phase leave the given row the start.
+-- HEADLINE: newer events that begin no phase leave the start of the phase that they found.
+pub start-since : (r : Row) (new old : List Event) → Lasting new → phaseOf r (new ++ old) .start ≡ phaseOf r old .start
+unfolding phaseOf
+start-since r [] old l = refl
+start-since r (e ∷ new) old l = start-next (phaseOf r (new ++ old)) e (l .0) ∙ start-since r new old (l .1)
+
+-- Events that begin no phase leave the given row as the start.
 pub start-lasts : (r : Row) (h : List Event) → Lasting h → phaseOf r h .start ≡ r
 unfolding phaseOf
-start-lasts r [] l = refl
-start-lasts r (e ∷ h) l = start-next (phaseOf r h) e (l .0) ∙ start-lasts r h (l .1)
+start-lasts r h l = ap (λ (g : List Event). phaseOf r g .start) (sym (append-nil h)) ∙ start-since r h [] l
 
 module _ {r : Row} (words : Words r) (h : List Event) (lasting : Lasting h) where
   -- HEADLINE: a row stays empty, sampled, a counter or broken until a setup, an erase or a restore is accepted.
   pub status-lasts : statusOf (rowSince r h) ≡ statusOf r
   status-lasts = status-history words h ∙ ap statusOf (start-lasts r h lasting)
+
+  -- HEADLINE: it keeps its kind, depth, width and counts per turn until then.
+  pub configuration-lasts : Configured (axisOf (rowSince r h)) (axisOf r)
+  configuration-lasts =
+      subst (λ (s : Row). Configured (axisOf (rowSince r h)) (axisOf s)) (start-lasts r h lasting)
+      (rw (row-history words h) (told-configured (phase-lawful words h)))
 
   -- A row that is neither sampled nor a counter is the row that its phase began with.
   idle-lasts : (s : Status) → toldBy s (phaseOf r h) ≡ phaseOf r h .start → statusOf r ≡ s → rowSince r h ≡ r

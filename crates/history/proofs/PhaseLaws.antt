@@ -10,6 +10,7 @@ use Rattle.axis.specs.declared.row.Row.{Row}
 use Rattle.axis.specs.declared.sound.Status.{Status}
 use Rattle.axis.specs.declared.sound.Status.the-variants.{Empty, Sampled, Counter, Broken}
 use Rattle.axis.proofs.SoundLaws.{sampled-gives, counter-gives}
+use Rattle.motion.specs.After.{Configured}
 use Rattle.calls.specs.Change.{changed, presetAxis, readAxis, Holds}
 use Rattle.calls.proofs.ChangeLaws.{sampled-holds, counter-holds, read-at, read-kept}
 use Rattle.calls.proofs.SetupLaws.{config-holds, erase-makes}
@@ -58,3 +59,17 @@ module _ {r : Row} {p : Phase} (l : Lawful r p) where
   pub axis-counter : statusOf (p .start) ≡ Counter → axisOf (toldRow p) ≡ readAxis (p .place) (axisOf (p .start))
   unfolding toldRow toldBy
   axis-counter e = rw e (counter-row e .axis)
+
+  -- Its configuration is that of the row that the phase began with.
+  pub told-configured : Configured (axisOf (toldRow p)) (axisOf (p .start))
+  unfolding toldRow toldBy told changed
+  told-configured = go (statusOf (p .start)) refl
+    where
+      same : Configured (axisOf (p .start)) (axisOf (p .start))
+      same = record { kind = refl; depth = refl; width = refl; turn = refl }
+
+      go : (s : Status) → statusOf (p .start) ≡ s → Configured (axisOf (toldBy s p)) (axisOf (p .start))
+      go Empty e = same
+      go Sampled e = rw (sampled-row e .axis) (record { kind = refl; depth = refl; width = refl; turn = refl })
+      go Counter e = rw (counter-row e .axis) (record { kind = refl; depth = refl; width = refl; turn = refl })
+      go Broken e = same

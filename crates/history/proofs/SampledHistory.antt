@@ -1,6 +1,6 @@
 -- Demand 2 for a sampled row: its fields and its bits of the answer after any events, by what its phase began with and what has happened since.
 use mathlib.Core.Path.{_≡_, sym, _∙_, ap}
-use mathlib.Core.Bool.{false, _||_}
+use mathlib.Core.Bool.{false}
 use mathlib.Core.List.{List}
 use Prim.Native.Nat.{ℕ, _+_, min}
 use lib.IntN.{_+ℤ_}
@@ -16,11 +16,11 @@ use Rattle.history.specs.Acts.{after, Legal}
 use Rattle.history.specs.Start.{Start}
 use Rattle.history.specs.Levels.{levelAt, roseAt}
 use Rattle.history.specs.Entries.{numberOfE, doubleAt}
-use Rattle.history.specs.Tally.{sum, heldIn, placeTally, doublesTally}
+use Rattle.history.specs.Tally.{sum, placeTally, doublesTally}
 use Rattle.history.specs.Event.{Event, rowSince}
 use Rattle.history.specs.Phase.{Marks, phaseOf, startAxis, actsSince, markedBy, toldMarks}
 use Rattle.history.proofs.ToldLaws.{whole-history}
-use Rattle.history.proofs.HistoryLaws.{level-history, range-history, position-history, doubles-history}
+use Rattle.history.proofs.HistoryLaws.{level-history, position-history, doubles-history}
 use Rattle.history.proofs.StartLaws.{start-sound}
 use Rattle.history.proofs.RowHistory.{phase-lawful, status-history, sampled-history, marks-history}
 
