@@ -1,5 +1,5 @@
 -- One event more: a row and the phase that tells it stay together.
-use mathlib.Core.Path.{_≡_, refl, sym, _∙_, ap}
+use mathlib.Core.Path.{_≡_, refl, sym, _∙_, ap, subst}
 use mathlib.Core.Bool.{Bool, true, false, cond}
 use mathlib.Core.List.{List, [], _∷_}
 use Prim.Native.Nat.{ℕ}
@@ -35,7 +35,8 @@ use Rattle.history.specs.Acts.{Act, act, sampled, Accepted as Agreed}
 use Rattle.history.specs.Acts.{preset as placed, arm as armed, acknowledge as acknowledged}
 use Rattle.history.specs.Told.{told}
 use Rattle.history.specs.Event.{Op, Event, setup, erase, preset, arm, acknowledge, view, reading, speed, save, restore, bits, asked, rowAfter, rowNext, rowSince}
-use Rattle.history.specs.Phase.{Phase, begun, acted, moved, bySort, readTo, restoredTo, afterCall, afterEvent, phaseOf, Beginning, given, erased, made, Lawful, toldBy, toldRow}
+use Rattle.history.specs.Phase.{Phase, begun, acted, moved, bySort, readTo, restoredTo, afterCall, afterEvent, phaseOf, toldBy, toldRow}
+use Rattle.history.specs.Lawful.{Beginning, given, erased, made, Lawful}
 use Rattle.history.proofs.ToldLaws.{told-first, act-told}
 use Rattle.history.proofs.StartLaws.{start-sound}
 use Rattle.history.proofs.PhaseLaws.{counter-preset, start-words, told-holds, axis-sampled, axis-counter}
@@ -55,9 +56,9 @@ test-sorts false q u p Broken = refl
 
 module _ {r : Row} (words : Words r) where
   -- A phase that has just begun tells the row that it began with.
-  begins : {s : Row} → Beginning r s → Tells r (begun s) s
+  starts : {s : Row} → Beginning r s → Tells r (begun s) s
   unfolding toldRow toldBy changed
-  begins {s} b = record {
+  starts {s} b = record {
     lawful = record { began = b; legal = tt; placed = λ e. let c = counter-gives s e in position-in-range (s .w0) (c .above) (c .below) };
     row = go (statusOf s) refl;
   }
@@ -136,12 +137,12 @@ module _ {r : Row} (words : Words r) where
     sets : (kind depth width turn : ℕ) → Tells r (afterCall p (setup kind depth width turn)) (rowAfter now (setup kind depth width turn))
     unfolding afterCall rowAfter setupRow wordOf inRange
     sets kind depth width turn =
-        by-test (goodConfig kind depth width turn) _ _ _ (λ good. begins (made (configOf kind depth width turn) (pos 0) good refl))
+        by-test (goodConfig kind depth width turn) _ _ _ (λ good. starts (made (configOf kind depth width turn) (pos 0) good refl))
 
     presets : (z : ℤ) → Tells r (afterCall p (preset z)) (rowAfter now (preset z))
     unfolding afterCall rowAfter presetRow placeRow act
     presets z =
-        rw (test-sorts (inRange z) (acted p (placed z)) (moved p z) p (statusOf (p .start)))
+        subst (λ (q : Phase). Tells r q (rowAfter now (preset z))) (sym (test-sorts (inRange z) (acted p (placed z)) (moved p z) p (statusOf (p .start))))
         (by-sort (λ s. leftBy now (byStatus Kept (placeRow z now) (placeRow z now) s)) _ _ refl refl
         (λ e. by-test (inRange z) _ _ _ (λ ok. acts (placed z) ok e))
         (λ e. by-test (inRange z) _ _ _ (λ ok. rw (counter-preset (counter-gives now (status-now ∙ e)) z) (moves z ok e))))
@@ -168,13 +169,13 @@ module _ {r : Row} (words : Words r) where
     restores bytes = go (readAs bytes) refl
       where
         go : (a : Read) → readAs bytes ≡ a → Tells r (restoredTo p a) (leftBy now (restoredBy a))
-        go (Accepted s) e = let w = within-parts s (accepted-within bytes s e) in begins (made (s .config) (s .position) (w .0) (w .1))
+        go (Accepted s) e = let w = within-parts s (accepted-within bytes s e) in starts (made (s .config) (s .position) (w .0) (w .1))
         go (Unread f) e = t
 
     calls : (o : Op) → Tells r (afterCall p o) (rowAfter now o)
     unfolding afterCall rowAfter eraseRow armRow acknowledgeRow act
     calls (setup kind depth width turn) = sets kind depth width turn
-    calls erase = begins erased
+    calls erase = starts erased
     calls (preset z) = presets z
     calls arm = sampled-only armed tt
     calls acknowledge = sampled-only acknowledged tt
@@ -192,5 +193,5 @@ module _ {r : Row} (words : Words r) where
   -- HEADLINE: the phase after any events tells the row after them.
   pub tells : (h : List Event) → Tells r (phaseOf r h) (rowSince r h)
   unfolding phaseOf rowSince
-  tells [] = begins given
+  tells [] = starts given
   tells (e ∷ h) = events (tells h) e

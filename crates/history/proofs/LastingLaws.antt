@@ -21,7 +21,8 @@ use Rattle.record.specs.declared.answer.Read.{Read}
 use Rattle.record.specs.declared.answer.Read.the-variants.{Accepted, Refused as Unread}
 use Rattle.calls.specs.Calls.{leftBy, storedRow, readRow}
 use Rattle.history.specs.Event.{Op, Event, setup, erase, preset, arm, acknowledge, view, reading, speed, save, restore, bits, asked, rowAfter, Refused, rowNext, rowSince}
-use Rattle.history.specs.Phase.{Phase, moved, bySort, readTo, restoredTo, afterCall, afterEvent, phaseOf, isRead, begins, Lasting, toldBy, toldRow, marksOf}
+use Rattle.history.specs.Phase.{Phase, moved, bySort, readTo, restoredTo, afterCall, afterEvent, phaseOf, toldBy, toldRow, marksOf}
+use Rattle.history.specs.Lasting.{isRead, begins, Lasting}
 use Rattle.history.proofs.PhaseLaws.{told-configured}
 use Rattle.history.proofs.RowHistory.{phase-lawful, row-history, status-history}
 

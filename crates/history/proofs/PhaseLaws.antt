@@ -15,7 +15,8 @@ use Rattle.calls.specs.Change.{changed, presetAxis, readAxis, Holds}
 use Rattle.calls.proofs.ChangeLaws.{sampled-holds, counter-holds, read-at, read-kept}
 use Rattle.calls.proofs.SetupLaws.{config-holds, erase-makes}
 use Rattle.history.specs.Told.{told}
-use Rattle.history.specs.Phase.{Phase, Beginning, given, erased, made, Lawful, toldBy, toldRow}
+use Rattle.history.specs.Phase.{Phase, toldBy, toldRow}
+use Rattle.history.specs.Lawful.{Beginning, given, erased, made, Lawful}
 use Rattle.history.proofs.SampledLaws.{keep-told}
 
 -- A preset of a counter does what a reading does: the flags that it clears are clear.

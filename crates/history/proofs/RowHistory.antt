@@ -14,7 +14,8 @@ use Rattle.motion.specs.declared.step.Stepped.{Stepped}
 use Rattle.calls.specs.Change.{readAxis, Holds}
 use Rattle.history.specs.Event.{Event, rowNext, rowSince}
 use Rattle.history.specs.Told.{told, answered}
-use Rattle.history.specs.Phase.{phaseOf, Lawful, toldRow, marksOf, markedBy, toldMarks}
+use Rattle.history.specs.Phase.{phaseOf, toldRow, marksOf, markedBy, toldMarks}
+use Rattle.history.specs.Lawful.{Lawful}
 use Rattle.history.proofs.ToldLaws.{sample-told}
 use Rattle.history.proofs.StartLaws.{start-sound}
 use Rattle.history.proofs.PhaseLaws.{told-holds, axis-sampled, axis-counter}

@@ -1,7 +1,6 @@
--- What the events of one axis tell, from any four words: a new phase begins with every setup, erase and restore that is accepted, and within a
--- phase the configuration stays. Events have the newest first.
+-- What the events of one axis tell, from any four words: document 01, "One row, four words", "A port sample" and "Calls that name one axis". A
+-- phase begins with every setup, erase and restore that is accepted, and within a phase the configuration stays. Events have the newest first.
 use Prim.Native.Nat.{ℕ}
-use mathlib.Core.Path.{_≡_}
 use mathlib.Core.Bool.{Bool, true, false, cond}
 use mathlib.Core.List.{List, [], _∷_}
 use lib.IntN.{ℤ}
@@ -12,7 +11,6 @@ use Rattle.reckon.specs.declared.Reckoned.the-variants.{Number, Refused as Unre
 use Rattle.axis.specs.Config.{goodConfig}
 use Rattle.axis.specs.Row.{axisOf, rowOf, emptyRow, fresh, freshAt}
 use Rattle.axis.specs.Sound.{statusOf}
-use Rattle.axis.specs.declared.config.Config.{Config}
 use Rattle.axis.specs.declared.row.Axis.{Axis}
 use Rattle.axis.specs.declared.row.Row.{Row}
 use Rattle.axis.specs.declared.sound.Status.{Status}
@@ -23,7 +21,8 @@ use Rattle.record.specs.Record.{readAs}
 use Rattle.record.specs.declared.answer.Read.{Read}
 use Rattle.record.specs.declared.answer.Read.the-variants.{Accepted, Refused as Unread}
 use Rattle.calls.specs.Change.{readAxis}
-use Rattle.history.specs.Acts.{Act, Legal, sampled}
+use Rattle.calls.specs.Calls.{configOf}
+use Rattle.history.specs.Acts.{Act, sampled}
 use Rattle.history.specs.Acts.{preset as placed, arm as armed, acknowledge as acknowledged}
 use Rattle.history.specs.Entries.{doubleAt}
 use Rattle.history.specs.Levels.{roseAt}
@@ -68,7 +67,7 @@ restoredTo p (Unread e) = p
 -- The phase after a call; one that is refused, or only looks, changes nothing.
 unfoldable pub afterCall : Phase → Op → Phase
 afterCall p (setup kind depth width turn) =
-    cond (goodConfig kind depth width turn) (begun (rowOf (fresh (record { kind = kind; depth = depth; width = width; turn = turn })))) p
+    cond (goodConfig kind depth width turn) (begun (rowOf (fresh (configOf kind depth width turn)))) p
 afterCall p erase = begun emptyRow
 afterCall p (preset z) = cond (inRange z) (bySort (acted p (placed z)) (moved p z) (statusOf (p .start)) p) p
 afterCall p arm = bySort (acted p armed) p (statusOf (p .start)) p
@@ -96,43 +95,6 @@ startAxis r h = axisOf (phaseOf r h .start)
 -- What has happened to it since.
 abbrev pub actsSince : Row → List Event → List Act
 actsSince r h = phaseOf r h .acts
-
--- Whether a record is accepted.
-abbrev pub isRead : Read → Bool
-isRead (Accepted s) = true
-isRead (Unread e) = false
-
--- Whether an event begins a phase: an erase, and a setup or a restore that is accepted.
-unfoldable pub begins : Event → Bool
-begins (bits n) = false
-begins (asked (setup kind depth width turn)) = goodConfig kind depth width turn
-begins (asked erase) = true
-begins (asked (preset z)) = false
-begins (asked arm) = false
-begins (asked acknowledge) = false
-begins (asked view) = false
-begins (asked (reading x)) = false
-begins (asked (speed rate)) = false
-begins (asked (save buffer)) = false
-begins (asked (restore bytes)) = isRead (readAs bytes)
-
--- None of some events begins a phase.
-abbrev pub Lasting : List Event → Type 0
-Lasting [] = Unit {0}
-Lasting (e ∷ h) = (begins e ≡ false) × Lasting h
-
--- How a phase begins after a row was given: with that row, with what an erase makes, or with what a setup or a restore does.
-pub data Beginning : Row → Row → Type 0 where
-  given : {r : Row} → Beginning r r
-  erased : {r : Row} → Beginning r emptyRow
-  made : {r : Row} (c : Config) (z : ℤ) → goodConfig (c .kind) (c .depth) (c .width) (c .turn) ≡ true → inRange z ≡ true →
-      Beginning r (rowOf (freshAt c (wordOf z)))
-
--- What holds of every phase after a row was given: how it began, that its acts were accepted, and that a counter's position is in the range.
-pub record Lawful (r : Row) (p : Phase) : Type 0 where
-  pub began : Beginning r (p .start)
-  pub legal : Legal (p .acts)
-  pub placed : statusOf (p .start) ≡ Counter → inRange (p .place) ≡ true
 
 -- The row that a phase tells, by what it began with.
 unfoldable pub toldBy : Status → Phase → Row
