@@ -118,29 +118,29 @@ pub fn compare(seed: u64, calls: u64, fault: Fault) -> Result<Tally, Box<Differe
 
 impl fmt::Display for Difference {
     fn fmt(&self, out: &mut fmt::Formatter) -> fmt::Result {
-        writeln!(out, "call {}: {:?}", self.calls, self.call)?;
+        writeln!(out, "call {}: {:?}, in hexadecimal {:x?}", self.calls, self.call, self.call)?;
         writeln!(out, "before:")?;
         show(out, &self.before, &self.before)?;
-        for (name, after) in [("the proved library", &self.proved), ("the reference", &self.plain)] {
-            writeln!(out, "{name}: {:?}", after.outcome)?;
-            show(out, &after.memory, &self.before)?;
+        let sides = [("the proved library", &self.proved, &self.plain), ("the reference", &self.plain, &self.proved)];
+        for (name, side, other) in sides {
+            writeln!(out, "{name}: {:?}", side.outcome)?;
+            show(out, &side.memory, &other.memory)?;
+            if !side.memory.same_frame(&self.before) {
+                writeln!(out, "  * memory outside the table and the buffer was changed")?;
+            }
         }
         Ok(())
     }
 }
 
-/// The table and the buffer; a star stands at each row that the call changed.
-fn show(out: &mut fmt::Formatter, memory: &Memory, before: &Memory) -> fmt::Result {
-    writeln!(out, "  table of {} words", memory.table().len())?;
-    for (axis, (row, old)) in memory.table().chunks(4).zip(before.table().chunks(4)).enumerate() {
+/// The table and the buffer; a star stands where the other side has them otherwise.
+fn show(out: &mut fmt::Formatter, memory: &Memory, other: &Memory) -> fmt::Result {
+    let star = |same| if same { ' ' } else { '*' };
+    writeln!(out, "    table of {} words", memory.table().len())?;
+    for (axis, (row, others)) in memory.table().chunks(4).zip(other.table().chunks(4)).enumerate() {
         let words: Vec<String> = row.iter().map(|word| format!("{word:016x}")).collect();
-        writeln!(out, "  {} {axis:2}: {}", if row == old { ' ' } else { '*' }, words.join(" "))?;
+        writeln!(out, "  {} {axis:2}: {}", star(row == others), words.join(" "))?;
     }
     let bytes: Vec<String> = memory.bytes().iter().map(|byte| format!("{byte:02x}")).collect();
-    let changed = if memory.bytes() == before.bytes() { ' ' } else { '*' };
-    writeln!(out, "  {changed} buffer of {} bytes: {}", bytes.len(), bytes.join(" "))?;
-    if !memory.same_frame(before) {
-        writeln!(out, "  * memory outside the table and the buffer was changed")?;
-    }
-    Ok(())
+    writeln!(out, "  {} buffer of {} bytes: {}", star(memory.bytes() == other.bytes()), bytes.len(), bytes.join(" "))
 }

@@ -73,7 +73,7 @@ fn random_rows(seed: u64) {
 fn no_difference(options: &Options) -> bool {
     match compare(options.seed, options.calls, Fault::None) {
         Err(difference) => {
-            println!("the two sides differ with seed {}\n{difference}", options.seed);
+            print!("the two sides differ with seed {}\n{difference}", options.seed);
             false
         }
         Ok(tally) if !tally.missing().is_empty() => {
@@ -96,7 +96,7 @@ fn all_faults_found(options: &Options) -> bool {
                 println!("{name}: found after {} calls, in {}", difference.calls, difference.call.name());
             }
             Err(difference) => {
-                println!("{name}: the two sides differ without it, too, with seed {}\n{difference}", options.seed);
+                print!("{name}: the two sides differ without it, too, with seed {}\n{difference}", options.seed);
                 all = false;
             }
             Ok(tally) => {
