@@ -1,2 +1,5 @@
 pub mod ReadingsHold
 pub mod OneOutcome
+pub mod SaveBytes
+pub mod RunLaws
+pub mod Apart
