@@ -31,9 +31,7 @@ unpack-requires c κs = sampled-positioned (c .before .before .before .args .r) 
 
 pack-requires : tie.Need-pack-requires
 unfolding changed
-pack-requires c κs =
-    let u = c .unpack .result in
-    packs u (c .before .before .before .before .args .r) (c .unpack .ensures) (u .word) (u .armed) (u .homed) (u .range) false 0 (lit< tt)
+pack-requires c κs = packs (c .unpack .result) (c .before .before .before .before .args .r) (c .unpack .ensures) _ _ _ _ _ _ (lit< tt)
 
 returns : tie.Need-returns
 unfolding acknowledgeRow

@@ -30,9 +30,7 @@ unpack-requires c κs = sampled-positioned (c .before .before .before .args .r) 
 
 pack-requires : tie.Need-pack-requires
 unfolding changed
-pack-requires c κs =
-    let u = c .unpack .result in
-    packs u (c .before .before .before .before .args .r) (c .unpack .ensures) (u .word) true false (u .range) (u .index) (u .doubles) (search needs)
+pack-requires c κs = packs (c .unpack .result) (c .before .before .before .before .args .r) (c .unpack .ensures) _ _ _ _ _ _ (search needs)
 
 returns : tie.Need-returns
 unfolding armRow
