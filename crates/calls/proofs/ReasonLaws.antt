@@ -1,9 +1,9 @@
--- The laws of BROKEN, EMPTY and KIND: each is answered exactly where the row is so.
+-- The laws of BROKEN, EMPTY and KIND, each answered exactly where the row is so, and of what is answered past them.
 use Prim.Native.Nat.{ℕ, _<_, _≤_}
 use native.Mathlib.Omega.{arith}
 use mathlib.Core.Path.{_≡_, refl, sym, ap, _∙_}
 use mathlib.Core.Logic.{_↔_, _⊎_, inl, inr}
-use mathlib.Core.Bool.{false, _&&_}
+use mathlib.Core.Bool.{false, cond, _&&_}
 use lib.Dec.{eqb, leb, lit<, lit≤}
 use borrow.Author.Tests.{eqb-false}
 use lib.ListN.{length}
@@ -12,30 +12,32 @@ use Rattle.integers.proofs.Balance.{Tested, yes, no, test}
 use Rattle.position.specs.Position.{inRange, positionOf}
 use Rattle.refusal.specs.Refusal.{numberOf}
 use Rattle.refusal.specs.declared.Refusal.{Refusal}
-use Rattle.refusal.specs.declared.Refusal.the-variants.{Broken as BROKEN, Empty as EMPTY, Kind as KIND}
+use Rattle.refusal.specs.declared.Refusal.the-variants.{Broken as BROKEN, Empty as EMPTY, Kind as KIND, Value as VALUE}
 use Rattle.reckon.specs.Reckoned.{refusalIn}
 use Rattle.reckon.specs.Widening.{widened}
 use Rattle.reckon.specs.Nearest.{Verdict, value, half, range, at}
 use Rattle.reckon.specs.Speed.{goodCount, goodSamples, goodRate, speedByCount}
 use Rattle.reckon.specs.declared.Reckoned.the-variants.{Refused as Unreckoned}
 use Rattle.reckon.proofs.NearestLaws.{verdict}
-use Rattle.axis.specs.Row.{axisOf, rowOf}
-use Rattle.axis.specs.Sound.{statusOf}
+use Rattle.axis.specs.Row.{axisOf, rowOf, freshAt}
+use Rattle.axis.specs.Sound.{statusOf, counterOf}
 use Rattle.axis.specs.declared.row.Axis.{Axis}
 use Rattle.axis.specs.declared.row.Row.{Row}
 use Rattle.axis.specs.declared.sound.Status.{Status}
 use Rattle.axis.specs.declared.sound.Status.the-variants.{Empty, Sampled, Counter, Broken}
+use Rattle.axis.proofs.SoundLaws.{counter-gives}
 use Rattle.record.specs.Answer.{writtenNumber}
 use Rattle.record.specs.Record.{within, recordOf, savedAs}
 use Rattle.record.specs.declared.answer.Saved.{Saved}
 use Rattle.record.specs.declared.answer.Written.the-variants.{Refused as Unwritten}
 use Rattle.calls.specs.Answer.{doneOf, doneNumber, viewOf, viewNumber}
-use Rattle.calls.specs.Change.{armAxis, acknowledgeAxis}
+use Rattle.calls.specs.Change.{presetAxis, armAxis, acknowledgeAxis}
 use Rattle.calls.specs.Calls.{byStatus, placeRow, presetRow, armRow, acknowledgeRow, viewRow, readingOf, readingRow, signOf, spanOf, speedOf, speedRow, savedOf, saveRow}
 use Rattle.calls.specs.Reasons.{Told}
 use Rattle.calls.specs.declared.answer.Changed.{Changed}
 use Rattle.calls.specs.declared.answer.Changed.the-variants.{To, Kept}
 use Rattle.calls.specs.declared.answer.Viewed.the-variants.{Shows, Refused as Unseen}
+use Rattle.calls.proofs.StatusLaws.{Live, either-kind}
 
 -- A number that is not another.
 other : {B : Type 0} (m n : ℕ) → eqb m n ≡ false → m ≡ n → B
@@ -58,13 +60,13 @@ past-not (inr g) m l h e = omega arith
 -- The row is of the right kind.
 right : {n : ℕ} {wrong : Type 0} → Past n → (wrong → ⊥) → Later n wrong
 right p never = record {
-  full = (past-not p 3 (lit< tt) (lit≤ tt), past-not p 4 (lit< tt) (lit≤ tt));
-  kind = (λ e. absurd (past-not p 5 (lit< tt) (lit≤ tt) e), λ w. absurd (never w));
+  full = (past-not p (numberOf BROKEN) (lit< tt) (lit≤ tt), past-not p (numberOf EMPTY) (lit< tt) (lit≤ tt));
+  kind = (λ e. absurd (past-not p (numberOf KIND) (lit< tt) (lit≤ tt) e), λ w. absurd (never w));
 }
 
 -- The row is of the wrong one.
 wrongly : {wrong : Type 0} → wrong → Later (numberOf KIND) wrong
-wrongly w = record { full = (λ e. other 5 3 refl e, λ e. other 5 4 refl e); kind = (λ _. w, λ _. refl) }
+wrongly w = record { full = (λ e. other (numberOf KIND) (numberOf BROKEN) refl e, λ e. other (numberOf KIND) (numberOf EMPTY) refl e); kind = (λ _. w, λ _. refl) }
 
 -- Statuses by a number, which tells them apart.
 rank : Status → ℕ
@@ -83,13 +85,13 @@ module _ {A : Type 0} (number : A → ℕ) (refuse : Refusal → A) (same : (e :
   unfolding rank
   told wrong b e sampled counter onS onC Broken = record {
     broken = (λ _. refl, λ _. same BROKEN);
-    empty = (λ h. other 3 4 refl (sym (same BROKEN) ∙ h), λ h. absurd (apart Broken Empty refl h));
-    kind = (λ h. other 3 5 refl (sym (same BROKEN) ∙ h), λ w. absurd (b w));
+    empty = (λ h. other (numberOf BROKEN) (numberOf EMPTY) refl (sym (same BROKEN) ∙ h), λ h. absurd (apart Broken Empty refl h));
+    kind = (λ h. other (numberOf BROKEN) (numberOf KIND) refl (sym (same BROKEN) ∙ h), λ w. absurd (b w));
   }
   told wrong b e sampled counter onS onC Empty = record {
-    broken = (λ h. other 4 3 refl (sym (same EMPTY) ∙ h), λ h. absurd (apart Empty Broken refl h));
+    broken = (λ h. other (numberOf EMPTY) (numberOf BROKEN) refl (sym (same EMPTY) ∙ h), λ h. absurd (apart Empty Broken refl h));
     empty = (λ _. refl, λ _. same EMPTY);
-    kind = (λ h. other 4 5 refl (sym (same EMPTY) ∙ h), λ w. absurd (e w));
+    kind = (λ h. other (numberOf EMPTY) (numberOf KIND) refl (sym (same EMPTY) ∙ h), λ w. absurd (e w));
   }
   told wrong b e sampled counter onS onC Sampled = record {
     broken = (λ h. absurd (onS .full .0 h), λ h. absurd (apart Sampled Broken refl h));
@@ -210,3 +212,34 @@ unfolding saveRow
 save-reasons room r =
     let s = savedOf (axisOf r) in
     both-kinds writtenNumber Unwritten (λ e. refl) (savedAs room s) (savedAs room s) (save-past room s) (save-past room s) (statusOf r)
+
+-- ---- what each call does on the rows that it takes
+
+-- HEADLINE: on a sampled row and on a counter a preset within the range is accepted, and any other is VALUE.
+pub preset-is : (p : ℤ) (r : Row) → Live r → presetRow p r ≡ cond (inRange p) (To (rowOf (presetAxis p (axisOf r)))) (Kept VALUE)
+unfolding presetRow placeRow
+preset-is p r l = either-kind Kept (placeRow p r) r l
+
+-- HEADLINE: on a sampled row arm is accepted.
+pub arm-is : (r : Row) → statusOf r ≡ Sampled → armRow r ≡ To (rowOf (armAxis (axisOf r)))
+unfolding armRow
+arm-is r e = rw e
+
+-- HEADLINE: on a sampled row acknowledge is accepted.
+pub acknowledge-is : (r : Row) → statusOf r ≡ Sampled → acknowledgeRow r ≡ To (rowOf (acknowledgeAxis (axisOf r)))
+unfolding acknowledgeRow
+acknowledge-is r e = rw e
+
+-- HEADLINE: on a sampled row and on a counter a view shows the axis.
+pub view-is : (r : Row) → Live r → viewRow r ≡ Shows (viewOf (axisOf r))
+unfolding viewRow
+view-is r l = either-kind Unseen (Shows (viewOf (axisOf r))) r l
+
+-- HEADLINE: of a counter that is its kind and its position, and flags and doubles 0.
+pub view-counter : (r : Row) → statusOf r ≡ Counter → viewRow r ≡ Shows (viewOf (freshAt (counterOf (axisOf r .width)) (axisOf r .word)))
+view-counter r e = view-is r (inr e) ∙ ap (λ (a : Axis). Shows (viewOf a)) (counter-gives r e .rest)
+
+-- HEADLINE: on a counter a reading is widened from the counter's width and position, with the refusals of that call.
+pub reading-is : (x : ℕ) (r : Row) → statusOf r ≡ Counter → readingRow x r ≡ widened (axisOf r .width) (positionOf (axisOf r .word)) x
+unfolding readingRow
+reading-is x r e = rw e

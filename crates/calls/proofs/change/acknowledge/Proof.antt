@@ -6,7 +6,6 @@ use Rattle.calls.specs.Change.{changed, acknowledgeAxis}
 use Rattle.calls.specs.Calls.{acknowledgeRow}
 use Rattle.calls.proofs.StatusLaws.{sampled-positioned, packs}
 use lib.Dec.{lit<}
-use mathlib.Core.Bool.{false}
 use borrow.Author.Needs.{needs}
 use Rattle.calls.proofs.change.acknowledge.Statement.{statement}
 use Rattle.calls.proofs.change.acknowledge.Tie as tie

@@ -5,7 +5,6 @@ use Rattle.calls.specs.declared.answer.Changed.the-variants.{To}
 use Rattle.calls.specs.Change.{changed, armAxis}
 use Rattle.calls.specs.Calls.{armRow}
 use Rattle.calls.proofs.StatusLaws.{sampled-positioned, packs}
-use mathlib.Core.Bool.{true, false}
 use borrow.Author.Needs.{needs}
 use Rattle.calls.proofs.change.arm.Statement.{statement}
 use Rattle.calls.proofs.change.arm.Tie as tie
