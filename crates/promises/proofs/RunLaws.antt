@@ -81,7 +81,7 @@ named-length t k (speed rate) = refl
 named-length t k (save buffer) = refl
 named-length t k (restore bytes) = by-length (restoreRow bytes) t k
 
-next-length : (t : List ℕ) (c : Call) → length (tableNext t c) ≡ length t
+pub next-length : (t : List ℕ) (c : Call) → length (tableNext t c) ≡ length t
 unfolding tableNext
 next-length t (port word) = sample-length t word
 next-length t (names k o) = named-length t k o
@@ -105,10 +105,10 @@ other-row t j k (restore bytes) h = by-other (restoreRow bytes) t j k h
 
 module _ (t : List ℕ) (k : ℕ) (h : k < axesIn (length t)) where
   -- the rule of a call is asked of the named row
-  ruled-is : (rule : Row → Changed) → ruled rule t k ≡ rule (rowAt t k)
+  pub ruled-is : (rule : Row → Changed) → ruled rule t k ≡ rule (rowAt t k)
   ruled-is rule = rw (← (found-at t k h))
 
-  by-rule : (rule : Row → Changed) → rowAt (tableAfter t k (ruled rule t k)) k ≡ leftBy (rowAt t k) (rule (rowAt t k))
+  pub by-rule : (rule : Row → Changed) → rowAt (tableAfter t k (ruled rule t k)) k ≡ leftBy (rowAt t k) (rule (rowAt t k))
   unfolding tableAfter
   by-rule rule = rw (ruled-is rule) (go (rule (rowAt t k)))
     where
