@@ -1,11 +1,13 @@
 -- Each public call's claim admits one outcome.
 use mathlib.Core.Path.{_≡_, sym, _∙_}
+use mathlib.Core.List.{List}
 use Prim.Native.Nat.{ℕ}
 use lib.IntN.{ℤ}
 use Rattle.reckon.specs.Widening.{widened}
 use Rattle.reckon.specs.Speed.{speedByCount}
 use Rattle.reckon.specs.declared.Reckoned.{Reckoned}
-use Rattle.host.specs.Answer.{answerTo}
+use Rattle.record.specs.Record.{testedAs}
+use Rattle.host.specs.Answer.{answerTo, answerTest}
 use Rattle.host.specs.declared.answer.Answer.{Answer}
 
 -- HEADLINE: a claim that says what an outcome is admits one outcome.
@@ -29,3 +31,7 @@ host-widen-one width position reading = one-outcome
 pub host-speed-one : (difference : ℤ) (samples rate : ℕ) (r s : Answer) →
     r ≡ answerTo (speedByCount difference samples rate) → s ≡ answerTo (speedByCount difference samples rate) → r ≡ s
 host-speed-one difference samples rate = one-outcome
+
+-- host: ubrenchip_test_record
+pub host-test-one : (slice : List ℕ) (r s : Answer) → r ≡ answerTest (testedAs slice) → s ≡ answerTest (testedAs slice) → r ≡ s
+host-test-one slice = one-outcome
