@@ -169,7 +169,7 @@ pub const WAYS: [(&str, Start, Flaw); 37] = [
     ("counter: word 0 is 0", Start::Counter, |_, row| row[0] = 0),
     ("counter: word 0 is 2^63 or more", Start::Counter, too_high),
     ("counter: too narrow", Start::Counter, |random, row| put(&mut row[1], 8, 6, random.below(2))),
-    ("counter: too wide", Start::Counter, |random, row| put(&mut row[1], 8, 6, random.between(33, 63))),
+    ("counter: too wide", Start::Counter, |random, row| put(&mut row[1], 8, 6, from(random, 33, 63))),
     ("counter: a depth", Start::Counter, |random, row| put(&mut row[1], 4, 4, random.between(1, 15))),
     ("counter: a bit above the width", Start::Counter, |random, row| row[1] |= 1 << random.between(14, 63)),
     ("counter: word 2", Start::Counter, |random, row| row[2] = 1 << random.below(64)),
@@ -181,13 +181,13 @@ pub const WAYS: [(&str, Start, Flaw); 37] = [
         put(&mut row[1], 4, 4, 0);
         put(&mut row[1], 22, 9, 0);
     }),
-    ("depth above 8", Start::Primed, |random, row| put(&mut row[1], 4, 4, random.between(9, 15))),
+    ("depth above 8", Start::Primed, |random, row| put(&mut row[1], 4, 4, from(random, 9, 15))),
     ("a width", Start::Primed, |random, row| put(&mut row[1], 8, 6, random.between(1, 63))),
     ("a run at its depth or above", Start::Primed, |random, row| {
         let depth = random.between(1, 7);
         put(&mut row[1], 4, 4, depth);
         put(&mut row[1], 22, 9, 0);
-        put(&mut row[1], random.pick(&[22, 25, 28]), 3, random.between(depth, 7));
+        put(&mut row[1], random.pick(&[22, 25, 28]), 3, from(random, depth, 7));
     }),
     ("ARMED and HOMED", Start::Primed, |_, row| put(&mut row[1], 15, 2, 3)),
     ("direction 3", Start::Primed, |_, row| put(&mut row[1], 48, 2, 3)),
@@ -205,8 +205,8 @@ pub const WAYS: [(&str, Start, Flaw); 37] = [
     }),
     ("bit 31", Start::Primed, |_, row| put(&mut row[1], 31, 1, 1)),
     ("a bit above direction", Start::Primed, |random, row| row[1] |= 1 << random.between(50, 63)),
-    ("word 3 is 2^32 or more", Start::Primed, |random, row| row[3] |= 1 << random.between(32, 63)),
-    ("unprimed, word 3 is 2^32 or more", Start::Unprimed, |random, row| row[3] |= 1 << random.between(32, 63)),
+    ("word 3 is 2^32 or more", Start::Primed, too_many_counts),
+    ("unprimed, word 3 is 2^32 or more", Start::Unprimed, too_many_counts),
     ("unprimed, HOMED", Start::Unprimed, |_, row| put(&mut row[1], 15, 2, 2)),
     ("unprimed, RANGE", Start::Unprimed, |_, row| put(&mut row[1], 17, 1, 1)),
     ("unprimed, INDEX", Start::Unprimed, |random, row| {
@@ -226,6 +226,19 @@ pub const WAYS: [(&str, Start, Flaw); 37] = [
         put(&mut row[2], 32, 32, random.between(1, u64::from(u32::MAX) - 1));
     }),
 ];
+
+/// A number from `low` to `high`, as often as not the lowest.
+fn from(random: &mut Random, low: u64, high: u64) -> u64 {
+    if random.coin() {
+        low
+    } else {
+        random.between(low, high)
+    }
+}
+
+fn too_many_counts(random: &mut Random, row: &mut [u64; 4]) {
+    row[3] = if random.coin() { 1 << 32 } else { row[3] | 1 << random.between(32, 63) };
+}
 
 fn too_high(random: &mut Random, row: &mut [u64; 4]) {
     row[0] = match random.below(3) {
