@@ -2,6 +2,7 @@
 use Prim.Native.Nat.{ℕ}
 use mathlib.Core.Path.{_≡_, sym, ap, _∙_}
 use mathlib.Core.List.{List}
+use Rattle.refusal.proofs.OutcomeLaws.{one}
 use Rattle.refusal.proofs.RefusalLaws.{told-apart, above-zero}
 use Rattle.reckon.specs.declared.Reckoned.{Reckoned}
 use Rattle.record.specs.declared.answer.Written.{Written}
@@ -13,10 +14,6 @@ use Rattle.table.specs.Port.{Samples, sampledNumber, sampledFound, sampl
 use Rattle.table.specs.Call.{Makes, viewedIn, Reads, speedIn, Saves}
 use Rattle.table.specs.declared.port.Sampled.{Sampled}
 use Rattle.table.specs.declared.port.Sampled.the-variants.{Seen, Refused}
-
--- A claim that says what an answer, or what is lent, is admits one.
-one : {A : Type 0} {x a b : A} → a ≡ x → b ≡ x → a ≡ b
-one p q = p ∙ sym q
 
 -- HEADLINE: a port sample has one outcome.
 pub sample-one : (t : List ℕ) (port : ℕ) {u v : List ℕ} {a b : Sampled} → Samples t port u a → Samples t port v b → (a ≡ b) × (u ≡ v)
