@@ -1,11 +1,10 @@
 -- The laws of the calls that name one axis, once for all of them: document 01, "Calls that name one axis".
-use Prim.Native.Nat.{ℕ, _+_, _*_, _/_, _<_, _≤_}
+use Prim.Native.Nat.{ℕ, _<_}
 use native.Mathlib.Omega.{arith}
 use mathlib.Core.Path.{_≡_, refl, sym, ap, _∙_}
-use mathlib.Core.Logic.{_≢_}
 use mathlib.Core.List.{List}
 use lib.IntN.{ℤ}
-use lib.ListN.{length, getD}
+use lib.ListN.{length}
 use Rattle.refusal.specs.declared.Refusal.{Refusal}
 use Rattle.axis.specs.Row.{axisOf, rowOf}
 use Rattle.axis.specs.declared.row.Row.{Row}
@@ -69,7 +68,7 @@ spares t k (Kept e) = record { size = refl; words = λ i h. refl; rows = λ j h.
 spares t k (To r) = record { size = length-setRow t k r; words = λ i h. word-other t k i r h; rows = λ j h. row-other t k j r h }
 
 -- The named row after a call that made another, which was there to be replaced.
-replaced : (rule : Row → Changed) (t : List ℕ) (k : ℕ) (r : Row) → ruled rule t k ≡ To r →
+pub replaced : (rule : Row → Changed) (t : List ℕ) (k : ℕ) (r : Row) → ruled rule t k ≡ To r →
     (k < axesIn (length t)) × (rule (rowAt t k) ≡ To r) × (rowAt (tableAfter t k (To r)) k ≡ r)
 unfolding tableAfter
 replaced rule t k r = go (located t k) refl

@@ -1,7 +1,9 @@
 pub mod TableLaws
 pub mod LocatedLaws
+pub mod MaskLaws
 pub mod PortLaws
 pub mod CallLaws
+pub mod WordLaws
 pub mod SaveLaws
 pub mod OrderLaws
 pub mod OutcomeLaws

@@ -1,8 +1,8 @@
 -- The order of the reasons in the calls that name one axis: document 01, "Reasons for saying no".
 use Prim.Native.Nat.{ℕ, _<_, _≤_}
 use native.Mathlib.Omega.{arith}
-use mathlib.Core.Path.{_≡_, refl, sym, ap, _∙_}
-use mathlib.Core.Logic.{_≢_, _↔_, _⊎_, inl, inr, ⊎-elim}
+use mathlib.Core.Path.{_≡_, refl, sym, ap}
+use mathlib.Core.Logic.{_≢_, _⊎_, inl, inr, ⊎-elim}
 use mathlib.Core.Bool.{Bool, true, false, cond, _&&_}
 use mathlib.Core.List.{List}
 use lib.Dec.{eqb, leb, ltb, lit<}
@@ -36,15 +36,13 @@ use Rattle.record.proofs.OrderLaws.{exactly}
 use Rattle.calls.specs.Answer.{doneOf, doneNumber, viewNumber}
 use Rattle.calls.specs.Calls.{byStatus, setupRow, eraseRow, placeRow, presetRow, armRow, acknowledgeRow, viewRow, readingRow, signOf, spanOf, speedOf, speedRow, savedOf, saveRow, restoreRow, restoredBy}
 use Rattle.calls.specs.declared.answer.Changed.{Changed}
-use Rattle.calls.specs.declared.answer.Changed.the-variants.{To, Kept}
+use Rattle.calls.specs.declared.answer.Changed.the-variants.{Kept}
 use Rattle.calls.specs.declared.answer.Done.{Done}
-use Rattle.calls.specs.declared.answer.Done.the-variants.{Refused as Undone}
 use Rattle.calls.specs.declared.answer.Viewed.the-variants.{Refused as Unseen}
 use Rattle.table.specs.Table.{axesIn, rowAt}
 use Rattle.table.specs.Located.{located, onFound}
-use Rattle.table.specs.Call.{ruled, Makes, viewedIn, readIn, speedIn, saveIn}
+use Rattle.table.specs.Call.{Makes, viewedIn, readIn, speedIn, saveIn}
 use Rattle.table.specs.Order.{After, changedNumber, Ordered}
-use Rattle.table.specs.declared.rows.Located.{Located}
 use Rattle.table.specs.declared.rows.Located.the-variants.{At, Refused}
 use Rattle.table.proofs.LocatedLaws.{found-none, found-past, found-at}
 

@@ -1,16 +1,14 @@
 -- The laws of a port sample on a table: document 01, "A port sample".
-use Prim.Native.Nat.{ℕ, zero, suc, _+_, _-_, _*_, _/_, _%_, _^_, _≤_, _<_}
-use native.Mathlib.Nat.{add-zero, le-refl, lt-of-lt-of-le, eq-or-lt-of-le, le-of-suc-le-suc, div-eq-of-lt, pow-suc, mul-add-div-right}
+use Prim.Native.Nat.{ℕ, zero, suc, _+_, _*_, _≤_, _<_}
+use native.Mathlib.Nat.{add-zero, le-refl, eq-or-lt-of-le, le-of-suc-le-suc}
 use native.Mathlib.Numerals.{add-one}
 use native.Mathlib.Omega.{arith}
 use mathlib.Core.Path.{_≡_, refl, sym, ap, _∙_}
 use mathlib.Core.Logic.{_≢_, _↔_, ⊎-elim}
-use mathlib.Core.Bool.{Bool, true, false, cond}
+use mathlib.Core.Bool.{Bool, true, false, cond, true≢false}
 use mathlib.Core.List.{List}
-use lib.Bits.{bitOr, or-shifted-r}
-use lib.Dec.{eqb, lit<}
+use lib.Dec.{eqb}
 use lib.ListN.{length}
-use lib.Pow.{pow-pos, pow-add, pow-mono, high, shl-exact}
 use borrow.Author.Tests.{eq-eqb, ne-eqb, eqb-true, eqb-false}
 use Rattle.fields.specs.Field.{fieldOf, flagOf}
 use Rattle.fields.proofs.BitLaws.{part}
@@ -18,67 +16,17 @@ use Rattle.refusal.specs.declared.Refusal.{Refusal}
 use Rattle.refusal.specs.declared.Refusal.the-variants.{Length}
 use Rattle.axis.specs.Sound.{statusOf}
 use Rattle.axis.specs.declared.row.Row.{Row}
-use Rattle.axis.specs.declared.sound.Status.the-variants.{Empty, Counter, Broken}
+use Rattle.axis.specs.declared.sound.Status.{Status}
+use Rattle.axis.specs.declared.sound.Status.the-variants.{Empty, Sampled, Counter, Broken}
 use Rattle.motion.specs.Step.{kept, stepRow}
 use Rattle.motion.specs.declared.step.SteppedRow.{SteppedRow}
-use Rattle.motion.proofs.RowLaws.{empty-stays, counter-stays, broken-stays, words-after, fourth-unread}
+use Rattle.motion.proofs.RowLaws.{row-steps, empty-stays, counter-stays, broken-stays, words-after, fourth-unread}
 use Rattle.table.specs.Table.{axesIn, rowAt, setRow, AllWords}
-use Rattle.table.specs.Port.{nibble, stepAt, sampledTo, putBit, maskOf, masksTo, noted, Below, sampledTable, sampledAnswer, Samples, Bits}
+use Rattle.table.specs.Port.{nibble, stepAt, sampledTo, maskOf, masksTo, noted, Below, sampledTable, sampledAnswer, Samples, Bits, Stays}
 use Rattle.table.specs.declared.port.Masks.{Masks}
-use Rattle.table.specs.declared.port.Sampled.{Sampled}
 use Rattle.table.specs.declared.port.Sampled.the-variants.{Seen, Refused}
 use Rattle.table.proofs.TableLaws.{axes-fit, length-setRow, row-same, row-other, row-words, set-words}
-
--- ---- a mask's bits
-
--- A shift and an or put a bit above what a mask holds.
-pub bit-put : (k m : ℕ) → k < 16 → m < 2 ^ k → bitOr m (1 * 2 ^ k % 2 ^ 16) ≡ m + 2 ^ k
-bit-put k m h b = rw (shl-exact 1 k 16 (lit< tt) (omega arith)) (or-shifted-r 1 k m b ∙ omega arith)
-
-put-below : (m k : ℕ) (on : Bool) → m < 2 ^ k → putBit m k on < 2 ^ suc k
-unfolding putBit
-put-below m k true h = omega (arith, pow-suc 2 k)
-put-below m k false h = omega (arith, pow-suc 2 k)
-
-mask-below : (n : ℕ) (f : ℕ → Bool) → maskOf n f < 2 ^ n
-unfolding maskOf
-mask-below zero f = omega arith
-mask-below (suc n) f = put-below (maskOf n f) n (f n) (mask-below n f)
-
-put-same : (m k : ℕ) (on : Bool) → m < 2 ^ k → flagOf k (putBit m k on) ≡ on
-unfolding putBit
-put-same m k true h = let e : m + 2 ^ k ≡ 1 * 2 ^ k + m = omega arith in rw (e, high 1 k h)
-put-same m k false h = rw (div-eq-of-lt h)
-
-put-other : (m k j : ℕ) (on : Bool) → j < k → flagOf j (putBit m k on) ≡ flagOf j m
-unfolding putBit
-put-other m k j false h = refl
-put-other m k j true h =
-    let d : ℕ = k - suc j in
-    let p : k ≡ suc d + j = omega arith in
-    let e : m + 2 ^ k ≡ 2 ^ d * 2 * 2 ^ j + m = omega (arith, ap (λ (x : ℕ). 2 ^ x) p ∙ pow-add 2 (suc d) j ∙ ap (λ (x : ℕ). x * 2 ^ j) (pow-suc 2 d)) in
-    let q : (m + 2 ^ k) / 2 ^ j ≡ 2 ^ d * 2 + m / 2 ^ j = ap (λ (x : ℕ). x / 2 ^ j) e ∙ mul-add-div-right (pow-pos j) (2 ^ d * 2) m in
-    let r : (m + 2 ^ k) / 2 ^ j % 2 ≡ m / 2 ^ j % 2 = omega arith in
-    ap (λ (x : ℕ). eqb x 1) r
-
--- HEADLINE: bit j of a mask of n rows is row j's.
-pub mask-bit : (n : ℕ) (f : ℕ → Bool) (j : ℕ) → j < n → flagOf j (maskOf n f) ≡ f j
-unfolding maskOf
-mask-bit zero f j h = absurd (omega arith)
-mask-bit (suc n) f j h =
-    ⊎-elim (λ e. rw e (put-same (maskOf n f) n (f n) (mask-below n f)))
-    (λ l. put-other (maskOf n f) n j (f n) l ∙ mask-bit n f j l)
-    (eq-or-lt-of-le (le-of-suc-le-suc h))
-
--- HEADLINE: a mask of n rows has no bit at n or above.
-pub mask-above : (n : ℕ) (f : ℕ → Bool) (j : ℕ) → n ≤ j → flagOf j (maskOf n f) ≡ false
-mask-above n f j h = rw (div-eq-of-lt (lt-of-lt-of-le (mask-below n f) (pow-mono h)))
-
--- Masks of rows that say the same are the same.
-mask-same : (n : ℕ) (f g : ℕ → Bool) → ((k : ℕ) → k < n → f k ≡ g k) → maskOf n f ≡ maskOf n g
-unfolding maskOf
-mask-same zero f g e = refl
-mask-same (suc n) f g e = rw (mask-same n f g (λ k h. e k (omega arith)), e n (omega arith))
+use Rattle.table.proofs.MaskLaws.{mask-below, mask-same, mask-bit, mask-above}
 
 -- ---- one row after another
 
@@ -209,25 +157,33 @@ module _ (t : List ℕ) (port : ℕ) where
         let n = axesIn (length t) in
         record { doubles = rw e (mask-bit n _ k h); index = rw e (mask-bit n _ k h); broken = rw e (mask-bit n _ k h) }
 
-    -- A row that its step keeps stays, and sets no bit but that of broken rows.
-    stays : (b : Bool) → stepRow (rowAt t k) (nibble port k) ≡ kept (rowAt t k) b →
-        (rowAt (sampledTable t port) k ≡ rowAt t k) × ((m : Masks) → sampledAnswer t port ≡ Seen m → Bits m k false false b)
-    stays b e = (rw e at sample-row, λ m q. rw e at (sample-bits m q))
+    stays : (b : Bool) → stepRow (rowAt t k) (nibble port k) ≡ kept (rowAt t k) b → Stays t port k b
+    stays b e = record { row = rw e at sample-row; bits = λ m q. rw e at (sample-bits m q) }
 
     -- HEADLINE: an empty row keeps every word and sets no bit.
-    pub empty-row : statusOf (rowAt t k) ≡ Empty →
-        (rowAt (sampledTable t port) k ≡ rowAt t k) × ((m : Masks) → sampledAnswer t port ≡ Seen m → Bits m k false false false)
+    pub empty-row : statusOf (rowAt t k) ≡ Empty → Stays t port k false
     empty-row s = stays false (empty-stays (rowAt t k) (nibble port k) s)
 
     -- HEADLINE: so does a counter row.
-    pub counter-row : statusOf (rowAt t k) ≡ Counter →
-        (rowAt (sampledTable t port) k ≡ rowAt t k) × ((m : Masks) → sampledAnswer t port ≡ Seen m → Bits m k false false false)
+    pub counter-row : statusOf (rowAt t k) ≡ Counter → Stays t port k false
     counter-row s = stays false (counter-stays (rowAt t k) (nibble port k) s)
 
-    -- HEADLINE: a broken row keeps every word, sets its own bit of the third mask, and refuses nothing.
-    pub broken-row : statusOf (rowAt t k) ≡ Broken →
-        (rowAt (sampledTable t port) k ≡ rowAt t k) × ((m : Masks) → sampledAnswer t port ≡ Seen m → Bits m k false false true)
+    -- HEADLINE: a broken row keeps every word and sets its own bit of the third mask; no other row is held up by it.
+    pub broken-row : statusOf (rowAt t k) ≡ Broken → Stays t port k true
     broken-row s = stays true (broken-stays (rowAt t k) (nibble port k) s)
+
+    -- HEADLINE: no other row sets that bit.
+    pub broken-only : (m : Masks) → sampledAnswer t port ≡ Seen m → flagOf k (m .broken) ≡ true → statusOf (rowAt t k) ≡ Broken
+    broken-only m q f = go (statusOf (rowAt t k)) refl
+      where
+        no : {A : Type 0} → flagOf k (m .broken) ≡ false → A
+        no e = absurd (true≢false (sym f ∙ e))
+
+        go : (s : Status) → statusOf (rowAt t k) ≡ s → statusOf (rowAt t k) ≡ Broken
+        go Broken e = e
+        go Empty e = no (empty-row e .bits m q .broken)
+        go Counter e = no (counter-row e .bits m q .broken)
+        go Sampled e = no (sample-bits m q .broken ∙ ap (λ (s : SteppedRow). s .broken) (row-steps (rowAt t k) (nibble port k) e))
 
   -- HEADLINE: words of 64 bits stay such words.
   pub sample-words : AllWords t → AllWords (sampledTable t port)

@@ -1,11 +1,11 @@
 -- The laws of a save into a lent buffer: document 01, "The saved record".
 use Prim.Native.Nat.{ℕ, _<_, _≤_}
 use native.Mathlib.Omega.{arith}
-use mathlib.Core.Path.{_≡_, refl, sym, ap, _∙_}
-use mathlib.Core.Bool.{Bool, true, false, cond, _&&_}
+use mathlib.Core.Path.{_≡_, refl, sym, _∙_}
+use mathlib.Core.Bool.{Bool, true, false, cond}
 use mathlib.Core.List.{List, _++_}
 use lib.Dec.{leb}
-use lib.ListN.{length, take, drop, length-append, length-drop}
+use lib.ListN.{length, drop, length-append, length-drop}
 use lib.Seq.{take-at, drop-at}
 use borrow.Author.Tests.{leb-true}
 use Rattle.refusal.specs.declared.Refusal.{Refusal}
@@ -17,13 +17,12 @@ use Rattle.axis.specs.declared.sound.Status.{Status}
 use Rattle.axis.specs.declared.sound.Status.the-variants.{Empty, Sampled, Counter, Broken}
 use Rattle.record.specs.Record.{within, recordOf, savedAs, written}
 use Rattle.record.specs.declared.answer.Saved.{Saved}
-use Rattle.record.specs.declared.answer.Written.{Written}
 use Rattle.record.specs.declared.answer.Written.the-variants.{Bytes, Refused as Unwritten}
 use Rattle.record.proofs.RecordLaws.{saved-front, refused-kept}
 use Rattle.calls.specs.Calls.{byStatus, savedOf, saveRow, savedIn}
 use Rattle.table.specs.Table.{axesIn, rowAt}
 use Rattle.table.specs.Located.{located, onFound}
-use Rattle.table.specs.Call.{saveIn, Saves, Fronts}
+use Rattle.table.specs.Call.{Saves, Fronts}
 use Rattle.table.specs.declared.rows.Located.{Located}
 use Rattle.table.specs.declared.rows.Located.the-variants.{At, Refused}
 use Rattle.table.proofs.LocatedLaws.{found}

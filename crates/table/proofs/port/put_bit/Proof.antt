@@ -1,5 +1,5 @@
 use Rattle.table.specs.Port.{putBit}
-use Rattle.table.proofs.PortLaws.{bit-put}
+use Rattle.table.proofs.MaskLaws.{bit-put}
 use borrow.Author.Needs.{needs}
 use Rattle.table.proofs.port.put_bit.Statement.{statement}
 use Rattle.table.proofs.port.put_bit.Tie as tie
