@@ -1,8 +1,10 @@
 /*
  * Ubrenchip: the encoder operations that need no table, for C.
  *
- * Every call tests its own arguments and always returns. None keeps anything between calls, so any
- * number of threads may call at once. Link with libhost.a (see README.md, "The C host").
+ * Every call tests its own arguments and always returns. A refused call changes no word of the table and
+ * no byte of a buffer. What the caller still owes: each pointer with its length is valid memory (a null
+ * pointer with length 0 is an empty slice), and nobody else touches that memory while a call runs. Nothing
+ * is kept between calls. docs/HOSTS.md shows how to build and link.
  */
 #ifndef UBRENCHIP_H
 #define UBRENCHIP_H
@@ -31,12 +33,14 @@ enum ubrenchip_refusal {
     UBRENCHIP_RECORD = 12    /* not a record, or a misshapen one */
 };
 
-/* What a call answers. On a refusal the value is 0; `found` is 0 but for LAYOUT. */
+/* What most calls answer. On a refusal the value is 0; `found` is 0 but for LAYOUT. */
 typedef struct ubrenchip_answer {
     uint32_t refusal; /* UBRENCHIP_DONE, or why not */
     uint32_t found;   /* the layout number that LAYOUT found */
     int64_t value;    /* the call's value */
 } ubrenchip_answer;
+
+/* ---- without a table: the locator's own three ---- */
 
 /*
  * The position that `reading`, the count of a counter of `width` bits, says, where the last known
@@ -54,6 +58,12 @@ ubrenchip_answer ubrenchip_widen(uint64_t width, int64_t position, uint64_t read
  * Refusal: VALUE.
  */
 ubrenchip_answer ubrenchip_speed_by_count(int64_t difference, uint64_t samples, uint64_t rate);
+
+/*
+ * Whether a slice of bytes is a saved record, the whole of it; value 0.
+ * Refusals: LAYOUT with the number found, RECORD, VALUE, in the order of the record's own checks.
+ */
+ubrenchip_answer ubrenchip_test_record(const uint8_t *record, size_t length);
 
 #ifdef __cplusplus
 }

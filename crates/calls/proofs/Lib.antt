@@ -1,3 +1,4 @@
 pub mod StatusLaws
+pub mod ChangeLaws
 pub mod SetupLaws
 pub mod SaveLaws

@@ -39,6 +39,11 @@ byStatus refuse sampled counter Empty = refuse EMPTY
 byStatus refuse sampled counter Sampled = sampled
 byStatus refuse sampled counter Counter = counter
 
+-- One call after another: the second takes the row that the first made, and a refusal of the first stands.
+abbrev pub andThen : Changed → (Row → Changed) → Changed
+andThen (To q) next = next q
+andThen (Kept e) next = Kept e
+
 -- ---- setup and erase, which take any row
 
 -- The configuration of four numbers.
