@@ -1,29 +1,28 @@
 -- The laws of preset, arm, acknowledge and an accepted reading: a sound row stays what it is, and holds the axis that the call makes.
-use Prim.Native.Nat.{ℕ, _<_, _≤_, _^_}
+use Prim.Native.Nat.{ℕ, _<_, _^_}
 use native.Mathlib.Omega.{arith}
-use mathlib.Core.Path.{_≡_, refl, sym, ap, subst, _∙_}
-use mathlib.Core.Logic.{_⊎_, inl, inr, ⊎-elim}
-use mathlib.Core.Bool.{Bool, true, false, cond, _&&_, true≢false}
+use mathlib.Core.Path.{_≡_, refl, sym, ap, subst}
+use mathlib.Core.Logic.{⊎-elim}
+use mathlib.Core.Bool.{Bool, true, false, _&&_, true≢false}
 use lib.Dec.{lit<}
 use lib.IntN.{ℤ}
 use Rattle.integers.proofs.Balance.{Tested, yes, no, test}
 use Rattle.position.specs.Position.{inRange, wordOf}
 use Rattle.position.proofs.PositionLaws.{word-low, word-high}
 use Rattle.refusal.specs.declared.Refusal.{Refusal}
-use Rattle.refusal.specs.declared.Refusal.the-variants.{Broken as BROKEN, Empty as EMPTY, Kind as KIND, Value as VALUE}
+use Rattle.refusal.specs.declared.Refusal.the-variants.{Kind as KIND, Value as VALUE}
 use Rattle.reckon.specs.declared.Reckoned.{Reckoned}
 use Rattle.reckon.specs.declared.Reckoned.the-variants.{Number, Refused as Unreckoned}
-use Rattle.axis.specs.Row.{axisOf, rowOf, freshAt, Held, Words}
-use Rattle.axis.specs.Sound.{statusOf, SampledAxis, Fresh, CounterAxis, counterOf}
+use Rattle.axis.specs.Row.{axisOf, rowOf, freshAt}
+use Rattle.axis.specs.Sound.{statusOf, SampledAxis, CounterAxis, counterOf}
 use Rattle.axis.specs.declared.row.Axis.{Axis}
 use Rattle.axis.specs.declared.row.Row.{Row}
 use Rattle.axis.specs.declared.sound.Status.{Status}
-use Rattle.axis.specs.declared.sound.Status.the-variants.{Empty, Sampled, Counter, Broken}
+use Rattle.axis.specs.declared.sound.Status.the-variants.{Sampled, Counter}
 use Rattle.axis.proofs.RowLaws.{comes-back, held-words}
 use Rattle.axis.proofs.SoundLaws.{sampled-held, sampled-gives, sampled-from, counter-held, counter-gives, counter-from}
 use Rattle.calls.specs.Change.{changed, presetAxis, armAxis, acknowledgeAxis, readAxis, Holds}
 use Rattle.calls.specs.Calls.{byStatus, placeRow, presetRow, armRow, acknowledgeRow, readingRow, storedRow, readRow}
-use Rattle.calls.specs.declared.answer.Changed.{Changed}
 use Rattle.calls.specs.declared.answer.Changed.the-variants.{To, Kept}
 use Rattle.calls.proofs.StatusLaws.{live, read-counter, read-in-range}
 

@@ -1,7 +1,7 @@
 -- What a row's status gives to the calls: the words that they read, and an axis that packs again.
 use Prim.Native.Nat.{ℕ, _<_, _^_}
 use native.Mathlib.Omega.{arith}
-use mathlib.Core.Path.{_≡_, refl, sym, ap, subst, _∙_}
+use mathlib.Core.Path.{_≡_, refl, sym, ap, subst}
 use mathlib.Core.Logic.{_⊎_, inl, inr, ⊎-elim}
 use mathlib.Core.Bool.{Bool, true}
 use lib.IntN.{ℤ}
@@ -64,17 +64,18 @@ live refuse sampled counter a never Empty e = absurd (never EMPTY e)
 live refuse sampled counter a never Sampled e = inl (refl, e)
 live refuse sampled counter a never Counter e = inr (refl, e)
 
+-- What is refused is no number.
+pub refused-not : (p : ℤ) (e : Refusal) → Refused e ≡ Number p → ⊥
+refused-not p e h = let z : _≡_ {A = ℕ} 0 1 = cc in omega arith
+
 -- A reading that is accepted was one of a counter row.
 pub read-counter : (x : ℕ) (r : Row) (p : ℤ) → readingRow x r ≡ Number p → (statusOf r ≡ Counter) × (readingOf x (axisOf r) ≡ Number p)
 unfolding readingRow
 read-counter x r p e =
     ⊎-elim
-    (λ h. absurd (refused-not KIND (h .1)))
+    (λ h. absurd (refused-not p KIND (h .1)))
     (λ h. h)
-    (live Refused (Refused KIND) (readingOf x (axisOf r)) (Number p) refused-not (statusOf r) e)
-  where
-    refused-not : (f : Refusal) → Refused f ≡ Number p → ⊥
-    refused-not f h = let z : _≡_ {A = ℕ} 0 1 = cc in omega arith
+    (live Refused (Refused KIND) (readingOf x (axisOf r)) (Number p) (refused-not p) (statusOf r) e)
 
 -- A position that was read is in the range.
 pub read-in-range : (x : ℕ) (r : Row) (p : ℤ) → readingRow x r ≡ Number p → inRange p ≡ true

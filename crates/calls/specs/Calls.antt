@@ -1,6 +1,6 @@
 -- What each call makes of the named row, and answers: document 01, "Calls that name one axis" and "The saved record".
 use Prim.Native.Nat.{ℕ, _<_, _^_, max}
-use mathlib.Core.Bool.{Bool, cond}
+use mathlib.Core.Bool.{cond}
 use mathlib.Core.List.{List}
 use lib.Dec.{eqb}
 use lib.IntN.{ℤ, pos, negsuc}
@@ -38,6 +38,11 @@ byStatus refuse sampled counter Broken = refuse BROKEN
 byStatus refuse sampled counter Empty = refuse EMPTY
 byStatus refuse sampled counter Sampled = sampled
 byStatus refuse sampled counter Counter = counter
+
+-- The row that a call leaves: the one that it made, or the row as it was.
+abbrev pub leftBy : Row → Changed → Row
+leftBy r (To q) = q
+leftBy r (Kept e) = r
 
 -- One call after another: the second takes the row that the first made, and a refusal of the first stands.
 abbrev pub andThen : Changed → (Row → Changed) → Changed
@@ -108,11 +113,15 @@ readRow x r = storedRow r (readingRow x r)
 abbrev pub signOf : ℕ → ℤ
 signOf d = cond (eqb d 2) (negsuc 0) (pos 1)
 
--- Speed by period on a sampled row: one count over the larger of period and age.
+-- The samples that one count took or has taken so far: the larger of period and age.
+abbrev pub spanOf : Axis → ℕ
+spanOf a = max (a .period) (a .age)
+
+-- Speed by period on a sampled row: one count over that many samples.
 unfoldable pub speedOf : ℕ → Axis → Reckoned
 speedOf rate a =
     cond (goodRate rate)
-    (cond (eqb (a .period) 0) (Unreckoned NO-PERIOD) (speedByCount (signOf (a .direction)) (max (a .period) (a .age)) rate))
+    (cond (eqb (a .period) 0) (Unreckoned NO-PERIOD) (speedByCount (signOf (a .direction)) (spanOf a) rate))
     (Unreckoned VALUE)
 
 -- Speed by period.
