@@ -1,4 +1,5 @@
 pub mod TableLaws
 pub mod LocatedLaws
 pub mod PortLaws
+pub mod AnswerLaws
 pub mod CallLaws
