@@ -22,6 +22,7 @@ use Rattle.record.specs.declared.answer.Written.{Written}
 use Rattle.record.specs.declared.answer.Written.the-variants.{Bytes, Refused as Unwritten}
 use Rattle.record.proofs.AnswerLaws.{save-told}
 use Rattle.record.proofs.RecordLaws.{written-shape}
+use Rattle.calls.specs.Answer.{viewValue}
 use Rattle.calls.specs.Calls.{byStatus, savedOf, saveRow}
 use Rattle.calls.specs.declared.answer.Done.{Done}
 use Rattle.calls.specs.declared.answer.View.{View}
@@ -104,14 +105,16 @@ sampled-apart a b e =
 pub view-apart : (a b : Viewed) → answerView a ≡ answerView b → a ≡ b
 unfolding answerView
 view-apart a b e =
+    let u = viewValue a in
+    let v = viewValue b in
     view-told a b (ap (λ (x : ViewAnswer). x .refusal) e) (ap (λ (x : ViewAnswer). x .found) e)
     (λ i. record {
       kind = e i .kind;
       position = e i .position;
-      primed = bit-apart _ _ (ap (λ (x : ViewAnswer). x .primed) e) i;
-      armed = bit-apart _ _ (ap (λ (x : ViewAnswer). x .armed) e) i;
-      homed = bit-apart _ _ (ap (λ (x : ViewAnswer). x .homed) e) i;
-      range = bit-apart _ _ (ap (λ (x : ViewAnswer). x .range) e) i;
-      index = bit-apart _ _ (ap (λ (x : ViewAnswer). x .index) e) i;
+      primed = bit-apart (u .primed) (v .primed) (λ j. e j .primed) i;
+      armed = bit-apart (u .armed) (v .armed) (λ j. e j .armed) i;
+      homed = bit-apart (u .homed) (v .homed) (λ j. e j .homed) i;
+      range = bit-apart (u .range) (v .range) (λ j. e j .range) i;
+      index = bit-apart (u .index) (v .index) (λ j. e j .index) i;
       doubles = e i .doubles;
     })
