@@ -36,8 +36,8 @@ use Rattle.table.specs.declared.rows.Located.the-variants.{At, Refused}
 use Rattle.table.proofs.AnswerLaws.{sample-told}
 use Rattle.host.specs.declared.answer.Answer.{Answer}
 use Rattle.face.specs.Answer.{answerDone, answerWritten, answerSampled, answerView}
-use Rattle.face.specs.declared.answer.SampledAnswer.{SampledAnswer}
-use Rattle.face.specs.declared.answer.ViewAnswer.{ViewAnswer}
+use Rattle.face.specs.declared.port.SampledAnswer.{SampledAnswer}
+use Rattle.face.specs.declared.look.ViewAnswer.{ViewAnswer}
 
 -- ---- a record's size
 

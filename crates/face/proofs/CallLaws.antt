@@ -9,8 +9,8 @@ use Rattle.host.specs.Answer.{answerTo}
 use Rattle.host.specs.declared.answer.Answer.{Answer}
 use Rattle.face.specs.Answer.{answerView}
 use Rattle.face.specs.Call.{Leaves, SamplesToC, MakesToC, ReadsToC, SavesToC}
-use Rattle.face.specs.declared.answer.SampledAnswer.{SampledAnswer}
-use Rattle.face.specs.declared.answer.ViewAnswer.{ViewAnswer}
+use Rattle.face.specs.declared.port.SampledAnswer.{SampledAnswer}
+use Rattle.face.specs.declared.look.ViewAnswer.{ViewAnswer}
 
 -- An answer in C's form, of a call that answered and left what is said.
 pub shows : {D A : Type 0} (form : D → A) {d said : D} {a : A} {u left : List ℕ} → a ≡ form d → d ≡ said → u ≡ left → Leaves (form said) left u a

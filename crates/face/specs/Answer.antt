@@ -1,5 +1,7 @@
 -- What the calls on a table answer to C: document 01, "Calls that name one axis", "A port sample" and "Reasons for saying no".
 use lib.IntN.{pos}
+use Rattle.refusal.specs.Refusal.{numberOf, foundIn}
+use Rattle.refusal.specs.declared.Refusal.{Refusal}
 use Rattle.fields.specs.Field.{bitOf}
 use Rattle.record.specs.Answer.{writtenNumber, writtenFound, writtenBytes}
 use Rattle.record.specs.declared.answer.Written.{Written}
@@ -9,8 +11,12 @@ use Rattle.calls.specs.declared.answer.Viewed.{Viewed}
 use Rattle.table.specs.Port.{sampledNumber, sampledFound, sampledMasks}
 use Rattle.table.specs.declared.port.Sampled.{Sampled}
 use Rattle.host.specs.declared.answer.Answer.{Answer}
-use Rattle.face.specs.declared.answer.SampledAnswer.{SampledAnswer}
-use Rattle.face.specs.declared.answer.ViewAnswer.{ViewAnswer}
+use Rattle.face.specs.declared.port.SampledAnswer.{SampledAnswer}
+use Rattle.face.specs.declared.look.ViewAnswer.{ViewAnswer}
+
+-- The paper's number and found number of a refusal, which has no value.
+abbrev pub answerRefused : Refusal → Answer
+answerRefused e = record { refusal = numberOf e; found = foundIn e; value = pos 0 }
 
 -- The paper's number and found number of a call that says only that it was done.
 unfoldable pub answerDone : Done → Answer

@@ -13,7 +13,7 @@ use Rattle.table.specs.Call.{ruled, tableAfter, readIn, saveIn}
 use Rattle.host.specs.Answer.{answerTo}
 use Rattle.host.specs.declared.answer.Answer.{Answer}
 use Rattle.face.specs.Answer.{answerDone, answerWritten, answerSampled}
-use Rattle.face.specs.declared.answer.SampledAnswer.{SampledAnswer}
+use Rattle.face.specs.declared.port.SampledAnswer.{SampledAnswer}
 
 -- A call answers what is said, and leaves the slice that it may change as is said.
 pub record Leaves {A : Type 0} (said : A) (left : List ℕ) (u : List ℕ) (a : A) : Type 0 where

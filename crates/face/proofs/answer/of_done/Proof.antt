@@ -9,11 +9,8 @@ enum-told c = search needs
 enum-known-d : tie.Need-enum-known-d
 enum-known-d c = search needs
 
-number-requires : tie.Need-number-requires
-number-requires c κs = search needs
-
-found-requires : tie.Need-found-requires
-found-requires c κs = search needs
+of-refusal-requires : tie.Need-of-refusal-requires
+of-refusal-requires c κs = search needs
 
 returns : tie.Need-returns
 unfolding answerDone
@@ -21,8 +18,7 @@ returns c = rw (c .enum-told .given .1)
 
 returns-2 : tie.Need-returns-2
 unfolding answerDone
-returns-2 c = rw (c .before .before .before .d .given .1, c .before .number .ensures, c .found .ensures)
+returns-2 c = rw (c .before .before .d .given .1) (c .of-refusal .ensures)
 
 pub of-done-spec : {M : Type 1} → statement M
-of-done-spec =
-    tie.close (tie.spec enum-told enum-known-d number-requires found-requires returns returns-2)
+of-done-spec = tie.close (tie.spec enum-told enum-known-d of-refusal-requires returns returns-2)

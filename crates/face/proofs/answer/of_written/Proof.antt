@@ -1,9 +1,9 @@
-use Rattle.face.specs.Answer.{answerWritten}
-use mir.Syntax.{w64}
-use mir.Val.{SFits}
 use native.Mathlib.Omega.{arith}
 use lib.IntN.{pos}
+use mir.Syntax.{w64}
+use mir.Val.{SFits}
 use Rattle.integers.proofs.Machine.{back}
+use Rattle.face.specs.Answer.{answerWritten}
 use borrow.Author.Needs.{needs}
 use Rattle.face.proofs.answer.of_written.Statement.{statement}
 use Rattle.face.proofs.answer.of_written.Tie as tie
@@ -21,11 +21,8 @@ cast-t5 c = fits c
 enum-known-w-2 : tie.Need-enum-known-w-2
 enum-known-w-2 c = search needs
 
-number-requires : tie.Need-number-requires
-number-requires c κs = search needs
-
-found-requires : tie.Need-found-requires
-found-requires c κs = search needs
+of-refusal-requires : tie.Need-of-refusal-requires
+of-refusal-requires c κs = search needs
 
 returns : tie.Need-returns
 unfolding answerWritten
@@ -33,9 +30,8 @@ returns c = rw (c .before .w .given .1, back (fits c))
 
 returns-2 : tie.Need-returns-2
 unfolding answerWritten
-returns-2 c = rw (c .before .before .before .w2 .given .1, c .before .number .ensures, c .found .ensures)
+returns-2 c = rw (c .before .before .w2 .given .1) (c .of-refusal .ensures)
 
 pub of-written-spec : {M : Type 1} → statement M
 of-written-spec =
-    tie.close
-    (tie.spec enum-known-w cast-t5 enum-known-w-2 number-requires found-requires returns returns-2)
+    tie.close (tie.spec enum-known-w cast-t5 enum-known-w-2 of-refusal-requires returns returns-2)

@@ -3,8 +3,8 @@ use mir.Val.{SFits}
 use Rattle.integers.proofs.Machine.{back}
 use Rattle.face.specs.Answer.{answerView}
 use borrow.Author.Needs.{needs}
-use Rattle.face.proofs.answer.of_viewed.Statement.{statement}
-use Rattle.face.proofs.answer.of_viewed.Tie as tie
+use Rattle.face.proofs.look.of_viewed.Statement.{statement}
+use Rattle.face.proofs.look.of_viewed.Tie as tie
 
 enum-known-v : tie.Need-enum-known-v
 enum-known-v c = search needs
