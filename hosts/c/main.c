@@ -1,24 +1,5 @@
 /* The C host's check: document 01's readings and edge values, through the header that C programs use. */
-#include <stdint.h>
-#include <stdio.h>
-#include "ubrenchip.h"
-
-static int checks, wrong;
-
-static void expect(const char *what, ubrenchip_answer got, uint32_t refusal, uint32_t found, int64_t value)
-{
-    checks++;
-    if (got.refusal == refusal && got.found == found && got.value == value)
-        return;
-    wrong++;
-    printf("WRONG: %s: refusal %u, found %u, value %lld; it should be %u, %u, %lld\n", what, (unsigned)got.refusal,
-           (unsigned)got.found, (long long)got.value, (unsigned)refusal, (unsigned)found, (long long)value);
-}
-
-#define TOP INT64_C(4611686018427387903) /* 2^62 - 1 */
-#ifndef INT64_C
-#define INT64_C(n) n##LL
-#endif
+#include "check.h"
 
 static void widening(void)
 {
@@ -109,10 +90,6 @@ int main(void)
     widening();
     speed();
     records();
-    if (wrong) {
-        printf("%d of %d checks are wrong\n", wrong, checks);
-        return 1;
-    }
-    printf("the C host: %d checks, none wrong\n", checks);
-    return 0;
+    return verdict("the C host", 1u << UBRENCHIP_VALUE | 1u << UBRENCHIP_HALF | 1u << UBRENCHIP_RANGE | 1u << UBRENCHIP_LAYOUT |
+                                     1u << UBRENCHIP_RECORD);
 }

@@ -2,6 +2,7 @@ pub mod TableLaws
 pub mod LocatedLaws
 pub mod MaskLaws
 pub mod PortLaws
+pub mod AnswerLaws
 pub mod CallLaws
 pub mod WordLaws
 pub mod SaveLaws
