@@ -2,9 +2,10 @@
  * Ubrenchip: encoder axes in a table that the caller lends, and the operations that need no table, for C.
  *
  * Every call tests its own arguments and always returns. A refused call changes no word of the table and
- * no byte of a buffer. What the caller still owes: each pointer with its length is valid memory (a null
- * pointer with length 0 is an empty slice), and nobody else touches that memory while a call runs. Nothing
- * is kept between calls. docs/HOSTS.md shows how to build and link.
+ * no byte of a buffer. What the caller still owes: each pointer with its length is valid memory, aligned
+ * for its type (a null pointer with length 0 is an empty slice); the two slices of a save or a restore do
+ * not overlap; and nobody else touches that memory while a call runs. Nothing is kept between calls.
+ * docs/HOSTS.md shows how to build and link.
  */
 #ifndef UBRENCHIP_H
 #define UBRENCHIP_H

@@ -30,7 +30,7 @@ static void expect(const char *what, ubrenchip_answer got, uint32_t refusal, uin
 static int verdict(const char *name, unsigned all)
 {
     for (unsigned n = 0; n < 13; n++) {
-        if (all >> n & ~given >> n & 1) {
+        if ((all & ~given) >> n & 1) {
             printf("%s: refusal %u was never answered\n", name, n);
             return 1;
         }

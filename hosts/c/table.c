@@ -112,13 +112,15 @@ static void setting_up(void)
     refused("depth 9", ubrenchip_setup(table, WORDS, 1, 4, 9, 0, 4096), UBRENCHIP_VALUE);
     refused("depth 0", ubrenchip_setup(table, WORDS, 1, 4, 0, 0, 4096), UBRENCHIP_VALUE);
     refused("x4 with a width", ubrenchip_setup(table, WORDS, 1, 4, 3, 8, 4096), UBRENCHIP_VALUE);
-    refused("2^32 a turn", ubrenchip_setup(table, WORDS, 1, 4, 3, 0, UINT64_MAX / UINT32_MAX), UBRENCHIP_VALUE);
+    refused("2^32 a turn", ubrenchip_setup(table, WORDS, 1, 4, 3, 0, (uint64_t)UINT32_MAX + 1), UBRENCHIP_VALUE);
     refused("kind 3", ubrenchip_setup(table, WORDS, 1, 3, 3, 0, 4096), UBRENCHIP_VALUE);
     refused("width 1", ubrenchip_setup(table, WORDS, 3, 8, 0, 1, 0), UBRENCHIP_VALUE);
     refused("width 33", ubrenchip_setup(table, WORDS, 3, 8, 0, 33, 0), UBRENCHIP_VALUE);
     refused("counter with a depth", ubrenchip_setup(table, WORDS, 3, 8, 1, 32, 0), UBRENCHIP_VALUE);
     refused("counter with a turn", ubrenchip_setup(table, WORDS, 3, 8, 0, 32, 1), UBRENCHIP_VALUE);
     kept("refused setups");
+    done("2^32 - 1 a turn", ubrenchip_setup(table, WORDS, 2, 1, 8, 0, UINT32_MAX));
+    row("2^32 - 1 a turn", 2, (uint64_t)TOP + 1, 1 | 8 << 4, 0, UINT32_MAX);
     done("erase", ubrenchip_erase(table, WORDS, 1));
     row("erased row", 1, 0, 0, 0, 0);
     done("erase of an empty row", ubrenchip_erase(table, WORDS, 1));
