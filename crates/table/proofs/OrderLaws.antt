@@ -1,8 +1,8 @@
 -- The order of the reasons in the calls that name one axis: document 01, "Reasons for saying no".
-use Prim.Native.Nat.{ℕ, _<_, _≤_}
+use Prim.Native.Nat.{ℕ, _*_, _<_, _≤_}
 use native.Mathlib.Omega.{arith}
 use mathlib.Core.Path.{_≡_, refl, sym, ap}
-use mathlib.Core.Logic.{_≢_, _⊎_, inl, inr, ⊎-elim}
+use mathlib.Core.Logic.{_≢_, _↔_, _⊎_, inl, inr, ⊎-elim}
 use mathlib.Core.Bool.{Bool, true, false, cond, _&&_}
 use mathlib.Core.List.{List}
 use lib.Dec.{eqb, leb, ltb, lit<}
@@ -44,6 +44,7 @@ use Rattle.table.specs.Located.{located, onFound}
 use Rattle.table.specs.Call.{Makes, viewedIn, readIn, speedIn, saveIn}
 use Rattle.table.specs.Order.{After, changedNumber, Ordered}
 use Rattle.table.specs.declared.rows.Located.the-variants.{At, Refused}
+use Rattle.table.proofs.TableLaws.{axes-of, length-wrong}
 use Rattle.table.proofs.LocatedLaws.{found-none, found-past, found-at}
 
 -- ---- one law for every call
@@ -102,6 +103,17 @@ module _ {A : Type 0} (number : A → ℕ) (refuse : Refusal → A) (same : (e :
           go (none z q) = let w : number (refuse Length) ≡ n = rw q at e in omega (arith, same Length)
           go (past z p q) = let w : number (refuse Axis) ≡ n = rw q at e in omega (arith, same Axis)
           go (there l q) = let w : number (say (rowAt t k)) ≡ n = rw q at e in ⊎-elim (λ z. omega arith) (λ m. omega arith) (late (rowAt t k))
+
+module _ {A : Type 0} {number : A → ℕ} {say : Row → A} {t : List ℕ} {k : ℕ} {a : A} (o : Ordered number say t k a) where
+  -- HEADLINE: so LENGTH is exactly for a slice that is not 4n words, n from 1 to 16.
+  pub length-line : (number a ≡ numberOf Length) ↔ ((n : ℕ) → 1 ≤ n → n ≤ 16 → length t ≢ n * 4)
+  length-line = (λ e. length-wrong (length t) .0 (o .slice .0 e), λ h. o .slice .1 (length-wrong (length t) .1 h))
+
+  -- HEADLINE: and AXIS, with such a slice, exactly for a number of n or more.
+  pub axis-line : (n : ℕ) → 1 ≤ n → n ≤ 16 → length t ≡ n * 4 → (number a ≡ numberOf Axis) ↔ (n ≤ k)
+  axis-line n some most e =
+      let held : axesIn (length t) ≡ n = rw e (axes-of n most) in
+      (λ h. omega (arith, o .named .0 h .1), λ h. o .named .1 ((λ z. let far : ⊥ = omega arith in far), omega arith))
 
 -- ---- each call's own reasons
 

@@ -16,6 +16,15 @@ use Rattle.table.specs.Table.{axesIn, rowAt, setRow, AllWords}
 
 -- ---- how many axes
 
+-- A length that passes the test holds a fourth of it, and any other none.
+pub axes-held : (len : ℕ) → (eqb (len % 4) 0 && leb (len / 4) 16) ≡ true → len / 4 ≡ axesIn len
+unfolding axesIn
+axes-held len e = rw e
+
+pub axes-none : (len : ℕ) → (eqb (len % 4) 0 && leb (len / 4) 16) ≡ false → 0 ≡ axesIn len
+unfolding axesIn
+axes-none len e = rw e
+
 -- Four words for each axis lie in the slice.
 pub axes-fit : (len : ℕ) → axesIn len * 4 ≤ len
 unfolding axesIn
