@@ -152,4 +152,4 @@ restoredBy (Unread e) = Kept e
 
 -- Restore, which takes any row.
 unfoldable pub restoreRow : List ℕ → Row → Changed
-restoreRow record' r = restoredBy (readAs record')
+restoreRow slice r = restoredBy (readAs slice)
