@@ -1,85 +1,106 @@
--- The laws of BROKEN, EMPTY and KIND: each is answered exactly where the row is so.
-use Prim.Native.Nat.{ℕ, _<_}
+-- The laws of BROKEN, EMPTY and KIND, each answered exactly where the row is so, and of what is answered past them.
+use Prim.Native.Nat.{ℕ, _<_, _≤_}
 use native.Mathlib.Omega.{arith}
-use mathlib.Core.Path.{_≡_, refl}
+use mathlib.Core.Path.{_≡_, refl, sym, ap, _∙_}
 use mathlib.Core.Logic.{_↔_, _⊎_, inl, inr}
-use mathlib.Core.Bool.{_&&_}
-use lib.Dec.{eqb, leb, lit<}
+use mathlib.Core.Bool.{false, cond, _&&_}
+use lib.Dec.{eqb, leb, lit<, lit≤}
+use borrow.Author.Tests.{eqb-false}
 use lib.ListN.{length}
 use lib.IntN.{ℤ}
 use Rattle.integers.proofs.Balance.{Tested, yes, no, test}
 use Rattle.position.specs.Position.{inRange, positionOf}
 use Rattle.refusal.specs.Refusal.{numberOf}
 use Rattle.refusal.specs.declared.Refusal.{Refusal}
-use Rattle.refusal.specs.declared.Refusal.the-variants.{Broken as BROKEN, Empty as EMPTY, Kind as KIND}
+use Rattle.refusal.specs.declared.Refusal.the-variants.{Broken as BROKEN, Empty as EMPTY, Kind as KIND, Value as VALUE}
 use Rattle.reckon.specs.Reckoned.{refusalIn}
 use Rattle.reckon.specs.Widening.{widened}
 use Rattle.reckon.specs.Nearest.{Verdict, value, half, range, at}
 use Rattle.reckon.specs.Speed.{goodCount, goodSamples, goodRate, speedByCount}
 use Rattle.reckon.specs.declared.Reckoned.the-variants.{Refused as Unreckoned}
 use Rattle.reckon.proofs.NearestLaws.{verdict}
-use Rattle.axis.specs.Row.{axisOf, rowOf}
-use Rattle.axis.specs.Sound.{statusOf}
+use Rattle.axis.specs.Row.{axisOf, rowOf, freshAt}
+use Rattle.axis.specs.Sound.{statusOf, counterOf}
 use Rattle.axis.specs.declared.row.Axis.{Axis}
 use Rattle.axis.specs.declared.row.Row.{Row}
 use Rattle.axis.specs.declared.sound.Status.{Status}
 use Rattle.axis.specs.declared.sound.Status.the-variants.{Empty, Sampled, Counter, Broken}
+use Rattle.axis.proofs.SoundLaws.{counter-gives}
 use Rattle.record.specs.Answer.{writtenNumber}
 use Rattle.record.specs.Record.{within, recordOf, savedAs}
 use Rattle.record.specs.declared.answer.Saved.{Saved}
 use Rattle.record.specs.declared.answer.Written.the-variants.{Refused as Unwritten}
 use Rattle.calls.specs.Answer.{doneOf, doneNumber, viewOf, viewNumber}
-use Rattle.calls.specs.Change.{armAxis, acknowledgeAxis}
+use Rattle.calls.specs.Change.{presetAxis, armAxis, acknowledgeAxis}
 use Rattle.calls.specs.Calls.{byStatus, placeRow, presetRow, armRow, acknowledgeRow, viewRow, readingOf, readingRow, signOf, spanOf, speedOf, speedRow, savedOf, saveRow}
 use Rattle.calls.specs.Reasons.{Told}
 use Rattle.calls.specs.declared.answer.Changed.{Changed}
 use Rattle.calls.specs.declared.answer.Changed.the-variants.{To, Kept}
 use Rattle.calls.specs.declared.answer.Viewed.the-variants.{Shows, Refused as Unseen}
+use Rattle.calls.proofs.StatusLaws.{Live, either-kind}
 
--- What a call may answer on a sound row that is not empty: done or a later reason, and KIND exactly where the row is of the wrong kind.
-record Later (n : ℕ) (wrong : Type 0) : Type 0 where
-  full : (n ≡ numberOf BROKEN → ⊥) × (n ≡ numberOf EMPTY → ⊥)
-  kind : (n ≡ numberOf KIND) ↔ wrong
+-- A number that is not another.
+other : {B : Type 0} (m n : ℕ) → eqb m n ≡ false → m ≡ n → B
+other m n e h = absurd (eqb-false m n e h)
 
 -- Done, or a reason after KIND.
 Past : ℕ → Type 0
 Past n = (n ≡ 0) ⊎ (numberOf KIND < n)
 
+-- What a call may answer on a sampled row or a counter: neither BROKEN nor EMPTY, and KIND exactly where the row is of the wrong kind.
+record Later (n : ℕ) (wrong : Type 0) : Type 0 where
+  full : (n ≡ numberOf BROKEN → ⊥) × (n ≡ numberOf EMPTY → ⊥)
+  kind : (n ≡ numberOf KIND) ↔ wrong
+
+past-not : {n : ℕ} → Past n → (m : ℕ) → 0 < m → m ≤ numberOf KIND → n ≡ m → ⊥
+unfolding Past
+past-not (inl z) m l h e = omega arith
+past-not (inr g) m l h e = omega arith
+
 -- The row is of the right kind.
 right : {n : ℕ} {wrong : Type 0} → Past n → (wrong → ⊥) → Later n wrong
-unfolding Past
-right (inl z) never = record { full = (λ e. omega arith, λ e. omega arith); kind = (λ e. absurd (let far : ⊥ = omega arith in far), λ w. absurd (never w)) }
-right (inr l) never = record { full = (λ e. omega arith, λ e. omega arith); kind = (λ e. absurd (let far : ⊥ = omega arith in far), λ w. absurd (never w)) }
+right p never = record {
+  full = (past-not p (numberOf BROKEN) (lit< tt) (lit≤ tt), past-not p (numberOf EMPTY) (lit< tt) (lit≤ tt));
+  kind = (λ e. absurd (past-not p (numberOf KIND) (lit< tt) (lit≤ tt) e), λ w. absurd (never w));
+}
 
 -- The row is of the wrong one.
 wrongly : {wrong : Type 0} → wrong → Later (numberOf KIND) wrong
-wrongly w = record { full = (λ e. omega arith, λ e. omega arith); kind = (λ _. w, λ _. refl) }
+wrongly w = record { full = (λ e. other (numberOf KIND) (numberOf BROKEN) refl e, λ e. other (numberOf KIND) (numberOf EMPTY) refl e); kind = (λ _. w, λ _. refl) }
+
+-- Statuses by a number, which tells them apart.
+rank : Status → ℕ
+rank Broken = 0
+rank Empty = 1
+rank Sampled = 2
+rank Counter = 3
+
+apart : (s t : Status) → eqb (rank s) (rank t) ≡ false → s ≡ t → ⊥
+apart s t e h = eqb-false (rank s) (rank t) e (ap rank h)
 
 module _ {A : Type 0} (number : A → ℕ) (refuse : Refusal → A) (same : (e : Refusal) → number (refuse e) ≡ numberOf e) where
+  -- By the row's status: BROKEN, EMPTY, and past these what the call answers on the two kinds.
   told : (wrong : Status → Type 0) → (wrong Broken → ⊥) → (wrong Empty → ⊥) → (sampled counter : A) → Later (number sampled) (wrong Sampled) →
       Later (number counter) (wrong Counter) → (s : Status) → Told (number (byStatus refuse sampled counter s)) s (wrong s)
-  told wrong b e sampled counter onS onC Broken =
-      let n : number (refuse BROKEN) ≡ 3 = same BROKEN in
-      record {
-        broken = (λ _. refl, λ _. n);
-        empty = (λ h. absurd (let far : ⊥ = omega arith in far), λ h. absurd (let z : _≡_ {A = ℕ} 0 1 = cc in omega arith));
-        kind = (λ h. absurd (let far : ⊥ = omega arith in far), λ w. absurd (b w));
-      }
-  told wrong b e sampled counter onS onC Empty =
-      let n : number (refuse EMPTY) ≡ 4 = same EMPTY in
-      record {
-        broken = (λ h. absurd (let far : ⊥ = omega arith in far), λ h. absurd (let z : _≡_ {A = ℕ} 0 1 = cc in omega arith));
-        empty = (λ _. refl, λ _. n);
-        kind = (λ h. absurd (let far : ⊥ = omega arith in far), λ w. absurd (e w));
-      }
+  unfolding rank
+  told wrong b e sampled counter onS onC Broken = record {
+    broken = (λ _. refl, λ _. same BROKEN);
+    empty = (λ h. other (numberOf BROKEN) (numberOf EMPTY) refl (sym (same BROKEN) ∙ h), λ h. absurd (apart Broken Empty refl h));
+    kind = (λ h. other (numberOf BROKEN) (numberOf KIND) refl (sym (same BROKEN) ∙ h), λ w. absurd (b w));
+  }
+  told wrong b e sampled counter onS onC Empty = record {
+    broken = (λ h. other (numberOf EMPTY) (numberOf BROKEN) refl (sym (same EMPTY) ∙ h), λ h. absurd (apart Empty Broken refl h));
+    empty = (λ _. refl, λ _. same EMPTY);
+    kind = (λ h. other (numberOf EMPTY) (numberOf KIND) refl (sym (same EMPTY) ∙ h), λ w. absurd (e w));
+  }
   told wrong b e sampled counter onS onC Sampled = record {
-    broken = (λ h. absurd (onS .full .0 h), λ h. absurd (let z : _≡_ {A = ℕ} 0 1 = cc in omega arith));
-    empty = (λ h. absurd (onS .full .1 h), λ h. absurd (let z : _≡_ {A = ℕ} 0 1 = cc in omega arith));
+    broken = (λ h. absurd (onS .full .0 h), λ h. absurd (apart Sampled Broken refl h));
+    empty = (λ h. absurd (onS .full .1 h), λ h. absurd (apart Sampled Empty refl h));
     kind = onS .kind;
   }
   told wrong b e sampled counter onS onC Counter = record {
-    broken = (λ h. absurd (onC .full .0 h), λ h. absurd (let z : _≡_ {A = ℕ} 0 1 = cc in omega arith));
-    empty = (λ h. absurd (onC .full .1 h), λ h. absurd (let z : _≡_ {A = ℕ} 0 1 = cc in omega arith));
+    broken = (λ h. absurd (onC .full .0 h), λ h. absurd (apart Counter Broken refl h));
+    empty = (λ h. absurd (onC .full .1 h), λ h. absurd (apart Counter Empty refl h));
     kind = onC .kind;
   }
 
@@ -90,15 +111,17 @@ module _ {A : Type 0} (number : A → ℕ) (refuse : Refusal → A) (same : (e :
 
   -- A call on sampled rows only.
   sampled-only : (sampled : A) → Past (number sampled) → (s : Status) → Told (number (byStatus refuse sampled (refuse KIND) s)) s (s ≡ Counter)
+  unfolding rank
   sampled-only sampled onS =
-      told (λ s. s ≡ Counter) (λ w. let z : _≡_ {A = ℕ} 0 1 = cc in omega arith) (λ w. let z : _≡_ {A = ℕ} 0 1 = cc in omega arith) sampled (refuse KIND)
-      (right onS (λ w. let z : _≡_ {A = ℕ} 0 1 = cc in omega arith)) (rw (same KIND) (wrongly refl))
+      told (λ s. s ≡ Counter) (apart Broken Counter refl) (apart Empty Counter refl) sampled (refuse KIND)
+      (right onS (apart Sampled Counter refl)) (rw (same KIND) (wrongly refl))
 
   -- A call on counters only.
   counters-only : (counter : A) → Past (number counter) → (s : Status) → Told (number (byStatus refuse (refuse KIND) counter s)) s (s ≡ Sampled)
+  unfolding rank
   counters-only counter onC =
-      told (λ s. s ≡ Sampled) (λ w. let z : _≡_ {A = ℕ} 0 1 = cc in omega arith) (λ w. let z : _≡_ {A = ℕ} 0 1 = cc in omega arith) (refuse KIND) counter
-      (rw (same KIND) (wrongly refl)) (right onC (λ w. let z : _≡_ {A = ℕ} 0 1 = cc in omega arith))
+      told (λ s. s ≡ Sampled) (apart Broken Sampled refl) (apart Empty Sampled refl) (refuse KIND) counter
+      (rw (same KIND) (wrongly refl)) (right onC (apart Counter Sampled refl))
 
 -- ---- what each call may answer past KIND
 
@@ -152,40 +175,71 @@ abbrev changedNumber : Changed → ℕ
 changedNumber c = doneNumber (doneOf c)
 
 -- HEADLINE: preset takes both kinds.
-pub preset-told : (p : ℤ) (r : Row) → Told (changedNumber (presetRow p r)) (statusOf r) ⊥
+pub preset-reasons : (p : ℤ) (r : Row) → Told (changedNumber (presetRow p r)) (statusOf r) ⊥
 unfolding presetRow
-preset-told p r = both-kinds changedNumber Kept (λ e. refl) (placeRow p r) (placeRow p r) (place-past p r) (place-past p r) (statusOf r)
+preset-reasons p r = both-kinds changedNumber Kept (λ e. refl) (placeRow p r) (placeRow p r) (place-past p r) (place-past p r) (statusOf r)
 
 -- HEADLINE: arm takes sampled rows.
-pub arm-told : (r : Row) → Told (changedNumber (armRow r)) (statusOf r) (statusOf r ≡ Counter)
+pub arm-reasons : (r : Row) → Told (changedNumber (armRow r)) (statusOf r) (statusOf r ≡ Counter)
 unfolding armRow Past
-arm-told r = sampled-only changedNumber Kept (λ e. refl) (To (rowOf (armAxis (axisOf r)))) (inl refl) (statusOf r)
+arm-reasons r = sampled-only changedNumber Kept (λ e. refl) (To (rowOf (armAxis (axisOf r)))) (inl refl) (statusOf r)
 
 -- HEADLINE: acknowledge takes sampled rows.
-pub acknowledge-told : (r : Row) → Told (changedNumber (acknowledgeRow r)) (statusOf r) (statusOf r ≡ Counter)
+pub acknowledge-reasons : (r : Row) → Told (changedNumber (acknowledgeRow r)) (statusOf r) (statusOf r ≡ Counter)
 unfolding acknowledgeRow Past
-acknowledge-told r = sampled-only changedNumber Kept (λ e. refl) (To (rowOf (acknowledgeAxis (axisOf r)))) (inl refl) (statusOf r)
+acknowledge-reasons r = sampled-only changedNumber Kept (λ e. refl) (To (rowOf (acknowledgeAxis (axisOf r)))) (inl refl) (statusOf r)
 
 -- HEADLINE: view takes both kinds.
-pub view-told : (r : Row) → Told (viewNumber (viewRow r)) (statusOf r) ⊥
+pub view-reasons : (r : Row) → Told (viewNumber (viewRow r)) (statusOf r) ⊥
 unfolding viewRow Past
-view-told r = let v = Shows (viewOf (axisOf r)) in both-kinds viewNumber Unseen (λ e. refl) v v (inl refl) (inl refl) (statusOf r)
+view-reasons r = let v = Shows (viewOf (axisOf r)) in both-kinds viewNumber Unseen (λ e. refl) v v (inl refl) (inl refl) (statusOf r)
 
 -- HEADLINE: a reading takes counters.
-pub reading-told : (x : ℕ) (r : Row) → Told (refusalIn (readingRow x r)) (statusOf r) (statusOf r ≡ Sampled)
+pub reading-reasons : (x : ℕ) (r : Row) → Told (refusalIn (readingRow x r)) (statusOf r) (statusOf r ≡ Sampled)
 unfolding readingRow
-reading-told x r =
+reading-reasons x r =
     let a = axisOf r in
     counters-only refusalIn Unreckoned (λ e. refl) (readingOf x a) (reading-past (a .width) (positionOf (a .word)) x) (statusOf r)
 
 -- HEADLINE: speed by period takes sampled rows.
-pub speed-told : (rate : ℕ) (r : Row) → Told (refusalIn (speedRow rate r)) (statusOf r) (statusOf r ≡ Counter)
+pub speed-reasons : (rate : ℕ) (r : Row) → Told (refusalIn (speedRow rate r)) (statusOf r) (statusOf r ≡ Counter)
 unfolding speedRow
-speed-told rate r = sampled-only refusalIn Unreckoned (λ e. refl) (speedOf rate (axisOf r)) (speed-past rate (axisOf r)) (statusOf r)
+speed-reasons rate r = sampled-only refusalIn Unreckoned (λ e. refl) (speedOf rate (axisOf r)) (speed-past rate (axisOf r)) (statusOf r)
 
 -- HEADLINE: save takes both kinds.
-pub save-told : (room : ℕ) (r : Row) → Told (writtenNumber (saveRow room r)) (statusOf r) ⊥
+pub save-reasons : (room : ℕ) (r : Row) → Told (writtenNumber (saveRow room r)) (statusOf r) ⊥
 unfolding saveRow
-save-told room r =
+save-reasons room r =
     let s = savedOf (axisOf r) in
     both-kinds writtenNumber Unwritten (λ e. refl) (savedAs room s) (savedAs room s) (save-past room s) (save-past room s) (statusOf r)
+
+-- ---- what each call does on the rows that it takes
+
+-- HEADLINE: on a sampled row and on a counter a preset within the range is accepted, and any other is VALUE.
+pub preset-is : (p : ℤ) (r : Row) → Live r → presetRow p r ≡ cond (inRange p) (To (rowOf (presetAxis p (axisOf r)))) (Kept VALUE)
+unfolding presetRow placeRow
+preset-is p r l = either-kind Kept (placeRow p r) r l
+
+-- HEADLINE: on a sampled row arm is accepted.
+pub arm-is : (r : Row) → statusOf r ≡ Sampled → armRow r ≡ To (rowOf (armAxis (axisOf r)))
+unfolding armRow
+arm-is r e = rw e
+
+-- HEADLINE: on a sampled row acknowledge is accepted.
+pub acknowledge-is : (r : Row) → statusOf r ≡ Sampled → acknowledgeRow r ≡ To (rowOf (acknowledgeAxis (axisOf r)))
+unfolding acknowledgeRow
+acknowledge-is r e = rw e
+
+-- HEADLINE: on a sampled row and on a counter a view shows the axis.
+pub view-is : (r : Row) → Live r → viewRow r ≡ Shows (viewOf (axisOf r))
+unfolding viewRow
+view-is r l = either-kind Unseen (Shows (viewOf (axisOf r))) r l
+
+-- HEADLINE: of a counter that is its kind and its position, and flags and doubles 0.
+pub view-counter : (r : Row) → statusOf r ≡ Counter → viewRow r ≡ Shows (viewOf (freshAt (counterOf (axisOf r .width)) (axisOf r .word)))
+view-counter r e = view-is r (inr e) ∙ ap (λ (a : Axis). Shows (viewOf a)) (counter-gives r e .rest)
+
+-- HEADLINE: on a counter a reading is widened from the counter's width and position, with the refusals of that call.
+pub reading-is : (x : ℕ) (r : Row) → statusOf r ≡ Counter → readingRow x r ≡ widened (axisOf r .width) (positionOf (axisOf r .word)) x
+unfolding readingRow
+reading-is x r e = rw e

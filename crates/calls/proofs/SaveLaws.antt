@@ -2,8 +2,8 @@
 use Prim.Native.Nat.{ℕ, _≤_, _^_}
 use native.Mathlib.Omega.{arith}
 use mathlib.Core.Path.{_≡_, refl, sym, ap, _∙_}
-use mathlib.Core.Bool.{Bool, true, false, cond}
-use mathlib.Core.Logic.{_⊎_, inl, inr, ⊎-elim}
+use mathlib.Core.Bool.{true, cond}
+use mathlib.Core.Logic.{inl, inr, ⊎-elim}
 use mathlib.Core.List.{List, _++_}
 use lib.Dec.{leb, lit<}
 use lib.ListN.{length, take, drop}
@@ -31,32 +31,11 @@ use Rattle.record.specs.declared.answer.Read.the-variants.{Accepted, Refused as
 use Rattle.record.specs.declared.answer.Written.the-variants.{Bytes, Refused as Unwritten}
 use Rattle.record.proofs.RecordLaws.{read-back, one-encoding, accepted-within, saved-front}
 use Rattle.calls.specs.Change.{changed, presetAxis, Holds}
-use Rattle.calls.specs.Calls.{Positioned, byStatus, andThen, placeRow, presetRow, setupRow, savedOf, saveRow, savedIn, restoredBy, restoreRow}
+use Rattle.calls.specs.Calls.{andThen, placeRow, presetRow, setupRow, savedOf, saveRow, savedIn, restoredBy, restoreRow}
 use Rattle.calls.specs.declared.answer.Changed.the-variants.{To, Kept}
-use Rattle.calls.proofs.StatusLaws.{sampled-positioned, counter-positioned, live}
+use Rattle.calls.proofs.StatusLaws.{live, Live, live-position, made-live, either-kind}
 use Rattle.calls.proofs.ChangeLaws.{to-one, kept-not}
 use Rattle.calls.proofs.SetupLaws.{config-holds}
-
--- ---- rows that are sound and not empty
-
--- A row that is sampled or a counter.
-abbrev Live : Row → Type 0
-Live r = (statusOf r ≡ Sampled) ⊎ (statusOf r ≡ Counter)
-
--- It has a position.
-live-position : (r : Row) → Live r → Positioned r
-live-position r (inl e) = sampled-positioned r e
-live-position r (inr e) = counter-positioned r e
-
--- What a setup makes is one.
-made-live : (q : Row) (b : Bool) → statusOf q ≡ cond b Sampled Counter → Live q
-made-live q true e = inl e
-made-live q false e = inr e
-
--- A call that does the same on both kinds does that.
-either-kind : {A : Type 0} (refuse : Refusal → A) (x : A) (r : Row) → Live r → byStatus refuse x x (statusOf r) ≡ x
-either-kind refuse x r (inl e) = ap (byStatus refuse x x) e
-either-kind refuse x r (inr e) = ap (byStatus refuse x x) e
 
 -- What is within its limits is a configuration and a position.
 pub within-parts : (s : Saved) → within s ≡ true →

@@ -3,7 +3,7 @@ use Prim.Native.Nat.{ℕ, _<_, _^_}
 use native.Mathlib.Omega.{arith}
 use mathlib.Core.Path.{_≡_, refl, sym, ap, subst}
 use mathlib.Core.Logic.{_⊎_, inl, inr, ⊎-elim}
-use mathlib.Core.Bool.{Bool, true}
+use mathlib.Core.Bool.{Bool, true, false, cond}
 use lib.IntN.{ℤ}
 use mir.Syntax.{w64}
 use mir.Val.{toZ, ofZ}
@@ -63,6 +63,25 @@ live refuse sampled counter a never Broken e = absurd (never BROKEN e)
 live refuse sampled counter a never Empty e = absurd (never EMPTY e)
 live refuse sampled counter a never Sampled e = inl (refl, e)
 live refuse sampled counter a never Counter e = inr (refl, e)
+
+-- A row that is sampled or a counter.
+abbrev pub Live : Row → Type 0
+Live r = (statusOf r ≡ Sampled) ⊎ (statusOf r ≡ Counter)
+
+-- It has a position.
+pub live-position : (r : Row) → Live r → Positioned r
+live-position r (inl e) = sampled-positioned r e
+live-position r (inr e) = counter-positioned r e
+
+-- A row whose status goes by its kind is one.
+pub made-live : (q : Row) (b : Bool) → statusOf q ≡ cond b Sampled Counter → Live q
+made-live q true e = inl e
+made-live q false e = inr e
+
+-- A call that does the same on both kinds does that on such a row.
+pub either-kind : {A : Type 0} (refuse : Refusal → A) (x : A) (r : Row) → Live r → byStatus refuse x x (statusOf r) ≡ x
+either-kind refuse x r (inl e) = ap (byStatus refuse x x) e
+either-kind refuse x r (inr e) = ap (byStatus refuse x x) e
 
 -- What is refused is no number.
 pub refused-not : (p : ℤ) (e : Refusal) → Refused e ≡ Number p → ⊥

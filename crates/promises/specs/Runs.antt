@@ -17,7 +17,7 @@ use Rattle.calls.specs.Calls.{setupRow, eraseRow, presetRow, armRow, acknowledg
 use Rattle.calls.specs.declared.answer.Done.{Done}
 use Rattle.calls.specs.declared.answer.Viewed.{Viewed}
 use Rattle.history.specs.Event.{Op, Event, setup, erase, preset, arm, acknowledge, view, reading, speed, save, restore, bits, asked, rowNext}
-use Rattle.history.specs.Phase.{Marks}
+use Rattle.history.specs.Phase.{Marks, marksOf}
 use Rattle.table.specs.Table.{axesIn, rowAt}
 use Rattle.table.specs.Port.{nibble, sampledTable, sampledAnswer}
 use Rattle.table.specs.Located.{located, onFound}
@@ -137,10 +137,6 @@ events k (c ∷ cs) = eventOf k c ++ events k cs
 unfoldable pub rowRun : Row → List Event → Row
 rowRun r [] = r
 rowRun r (e ∷ es) = rowRun (rowNext r e) es
-
--- The bits of a row's own sample.
-abbrev pub marksOf : SteppedRow → Marks
-marksOf s = record { double = s .double; index = s .index; broken = s .broken }
 
 -- The answer of a call, as the row alone gives it.
 unfoldable pub answerOf : Row → Op → Told

@@ -10,6 +10,7 @@ use lib.Dec.{leb}
 use lib.IntN.{negsuc}
 use lib.ListN.{length, take, drop}
 use lib.Seq.{sets, sets-eq}
+use Rattle.refusal.proofs.OutcomeLaws.{one}
 use Rattle.integers.proofs.Balance.{Tested as Told, yes, no, test}
 use Rattle.refusal.specs.declared.Refusal.{Refusal}
 use Rattle.refusal.specs.declared.Refusal.the-variants.{Room, Layout}
@@ -140,10 +141,6 @@ refused-kept b s r h = go (test (within s)) (test (leb (length (recordOf s)) (le
     go (yes w) (yes l) = let e = rw (w, l) at h in let z : _≡_ {A = ℕ} 0 1 = cc in absurd (omega arith)
 
 -- ---- one outcome
-
--- Two outcomes of one definition are equal.
-one : {A : Type 0} {x y z : A} → y ≡ x → z ≡ x → y ≡ z
-one p q = p ∙ sym q
 
 -- HEADLINE: reading a slice has one outcome.
 pub read-one : (s : List ℕ) (q r : Read) → q ≡ readAs s → r ≡ readAs s → q ≡ r

@@ -20,7 +20,8 @@ use Rattle.record.specs.Bytes.{AllBytes, numberAt, bytesOf, starts}
 use Rattle.record.specs.Record.{headAt, standsAt, knownKind, within, saying, readAs, opening, fieldBytes, headBytes, counterBytes, sampledBytes, recordOf, KIND, POSITION, DEPTH, WIDTH, TURN, END}
 use Rattle.record.specs.Order.{nineStand, kindIn, restStands, saidIn, all-good}
 use Rattle.record.proofs.BytesLaws.{bytes-drop, bytes-take, number-below, number-back, bytes-back, starts-is}
-use Rattle.record.proofs.LimitsLaws.{and-true, Sampled, sampled-kind, known-counter, Good, sampled, counter, within-config, within-position}
+use Rattle.axis.proofs.TestLaws.{both as and-true}
+use Rattle.record.proofs.LimitsLaws.{Sampled, sampled-kind, known-counter, Good, sampled, counter, within-config, within-position}
 use Rattle.record.proofs.OrderLaws.{exactly, passed}
 use Rattle.record.proofs.WriterLaws.{counter-record, sampled-record}
 

@@ -33,9 +33,7 @@ word-of-requires c κs = rw (back (c .before .before .before .fits .position)) (
 
 pack-requires : tie.Need-pack-requires
 unfolding changed
-pack-requires c κs =
-    let u = c .before .unpack .result in
-    packs u (c .before .before .before .before .args .r) (c .before .unpack .ensures) (c .word-of .result) (u .armed) false false (u .index) (u .doubles) (search needs)
+pack-requires c κs = packs (c .before .unpack .result) (c .before .before .before .before .args .r) (c .before .unpack .ensures) _ _ _ _ _ _ (search needs)
 
 returns-2 : tie.Need-returns-2
 unfolding changed placeRow

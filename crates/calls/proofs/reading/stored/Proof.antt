@@ -17,9 +17,7 @@ word-of-requires c κs = search needs
 
 pack-requires : tie.Need-pack-requires
 unfolding changed
-pack-requires c κs =
-    let u = c .before .unpack .result in
-    packs u (c .before .before .args .r) (c .before .unpack .ensures) (c .word-of .result) (u .armed) (u .homed) (u .range) (u .index) (u .doubles) (search needs)
+pack-requires c κs = packs (c .before .unpack .result) (c .before .before .args .r) (c .before .unpack .ensures) _ _ _ _ _ _ (search needs)
 
 returns : tie.Need-returns
 unfolding changed

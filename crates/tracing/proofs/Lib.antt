@@ -1,0 +1,3 @@
+pub mod TraceLaws
+pub mod DecimalLaws
+pub mod TextLaws
