@@ -1,10 +1,10 @@
 -- The laws of what C sees: a record's size fits, and the numbers tell the answers apart.
 use Prim.Native.Nat.{ℕ, _≤_}
 use native.Mathlib.Omega.{arith}
-use mathlib.Core.Path.{_≡_, refl, sym, ap, _∙_}
+use mathlib.Core.Path.{_≡_, refl, ap}
 use mathlib.Core.Bool.{Bool, true, false, cond}
 use mathlib.Core.List.{List}
-use lib.IntN.{pos, natAbs}
+use lib.IntN.{natAbs}
 use lib.Dec.{leb}
 use lib.ListN.{length}
 use Rattle.refusal.specs.declared.Refusal.the-variants.{Value, Room}
@@ -25,7 +25,6 @@ use Rattle.record.proofs.RecordLaws.{written-shape}
 use Rattle.calls.specs.Answer.{viewValue}
 use Rattle.calls.specs.Calls.{byStatus, savedOf, saveRow}
 use Rattle.calls.specs.declared.answer.Done.{Done}
-use Rattle.calls.specs.declared.answer.View.{View}
 use Rattle.calls.specs.declared.answer.Viewed.{Viewed}
 use Rattle.calls.proofs.AnswerLaws.{done-told, view-told}
 use Rattle.table.specs.Located.{located, onFound}

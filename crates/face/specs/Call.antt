@@ -15,7 +15,7 @@ use Rattle.host.specs.declared.answer.Answer.{Answer}
 use Rattle.face.specs.Answer.{answerDone, answerWritten, answerSampled}
 use Rattle.face.specs.declared.port.SampledAnswer.{SampledAnswer}
 
--- A call answers what is said, and leaves the slice that it may change as is said.
+-- What a call that may write a slice promises: it answers `said`, and the slice holds `left` afterwards.
 pub record Leaves {A : Type 0} (said : A) (left : List ℕ) (u : List ℕ) (a : A) : Type 0 where
   pub answer : a ≡ said
   pub slice : u ≡ left
