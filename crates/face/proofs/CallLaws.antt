@@ -2,6 +2,7 @@
 use mathlib.Core.Path.{_≡_, sym, ap, _∙_}
 use mathlib.Core.List.{List}
 use Prim.Native.Nat.{ℕ}
+use Rattle.refusal.proofs.OutcomeLaws.{one}
 use Rattle.axis.specs.declared.row.Row.{Row}
 use Rattle.calls.specs.declared.answer.Changed.{Changed}
 use Rattle.table.specs.Call.{viewedIn, speedIn}
@@ -18,7 +19,7 @@ shows form p q w = record { answer = p ∙ ap form q; slice = w }
 
 -- HEADLINE: two outcomes of one call are the same answer and the same words or bytes.
 pub one-left : {A : Type 0} {said : A} {left u v : List ℕ} {a b : A} → Leaves said left u a → Leaves said left v b → (a ≡ b) × (u ≡ v)
-one-left p q = (p .answer ∙ sym (q .answer), p .slice ∙ sym (q .slice))
+one-left p q = (one (p .answer) (q .answer), one (p .slice) (q .slice))
 
 -- ubrenchip_sample
 pub sample-one : (t : List ℕ) (port : ℕ) {u v : List ℕ} {a b : SampledAnswer} → SamplesToC t port u a → SamplesToC t port v b → (a ≡ b) × (u ≡ v)
@@ -38,8 +39,8 @@ save-one t k before = one-left
 
 -- ubrenchip_look
 pub look-one : (t : List ℕ) (k : ℕ) (a b : ViewAnswer) → a ≡ answerView (viewedIn t k) → b ≡ answerView (viewedIn t k) → a ≡ b
-look-one t k a b p q = p ∙ sym q
+look-one t k a b p q = one p q
 
 -- ubrenchip_speed_by_period
 pub speed-one : (rate : ℕ) (t : List ℕ) (k : ℕ) (a b : Answer) → a ≡ answerTo (speedIn rate t k) → b ≡ answerTo (speedIn rate t k) → a ≡ b
-speed-one rate t k a b p q = p ∙ sym q
+speed-one rate t k a b p q = one p q
