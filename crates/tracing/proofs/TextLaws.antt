@@ -1,22 +1,21 @@
 -- The laws of a report's text: document 01, "Trace program".
-use Prim.Native.Nat.{ℕ, zero, suc, _+_, _/_, _%_, _^_, _≤_, _<_}
+use Prim.Native.Nat.{ℕ, zero, suc, _+_, _-_, _/_, _%_, _^_, _≤_, _<_}
 use native.Mathlib.Numerals.{add-one}
 use native.Mathlib.Omega.{arith}
 use mathlib.Core.Path.{_≡_, refl, sym, ap, subst, _∙_}
-use mathlib.Core.Logic.{⊎-elim}
 use mathlib.Core.Bool.{true, false}
 use mathlib.Core.List.{List, [], _∷_, _++_}
 use lib.Dec.{T}
-use lib.IntN.{ℤ, pos, negsuc, natAbs, _+ℤ_, _-ℤ_}
+use lib.IntN.{ℤ, pos, negsuc, natAbs}
 use lib.Signed.{ltZ}
 use lib.ListN.{length, take, getD, set, length-append}
 use lib.Seq.{sets, take-suc, length-take-le}
 use borrow.Author.Tests.{ltb-true}
 use mir.Syntax.{w64}
-use mir.Val.{SFits}
+use mir.Val.{SFits, ofZ}
 use Rattle.integers.specs.Integer.{plus, minus}
-use Rattle.integers.proofs.Balance.{sign, abs-is, bal-add, bal-sub, ltZ-true}
-use Rattle.integers.proofs.Machine.{fits-i64, i64-fits, no-pos}
+use Rattle.integers.proofs.Balance.{abs-is, ltZ-true, ltZ-false}
+use Rattle.integers.proofs.Machine.{i64-fits, no-pos, abs-nonneg, bits-neg, bits-pos}
 use Rattle.record.proofs.StoreLaws.{sets-then}
 use Rattle.tracing.specs.Text.{FEED, MINUS, ZERO, SAMPLES, POSITION, DOUBLES, decimal, numeral, lineOf, textOf, Puts, Writes}
 use Rattle.tracing.specs.declared.report.Report.{Report}
@@ -87,39 +86,17 @@ position-below z e = rw (numeral-below z e)
 pub position-above : (z : ℤ) → ltZ z (pos 0) ≡ false → lineOf POSITION (numeral z) ≡ lineOf POSITION (decimal (natAbs z))
 position-above z e = ap (lineOf POSITION) (numeral-above z e)
 
--- A number below zero, one up and turned round, is one short of its size, and no step leaves the machine's range.
-module _ (z : ℤ) (f : SFits w64 z) (h : ltZ z (pos 0) ≡ true) where
-  abbrev pub up : ℤ
-  up = z +ℤ pos 1
+-- The size of a number below zero, by its bits.
+pub size-below : (z : ℤ) → SFits w64 z → ltZ z (pos 0) ≡ true → (2 ^ 64 - 1 - ofZ w64 z + 1 ≡ natAbs z) × (natAbs z < 2 ^ 64)
+size-below z f h =
+    let b = ltZ-true z (pos 0) h in
+    let n : plus z ≡ 0 = no-pos z (omega arith) in
+    let bits = bits-neg z (omega arith) in
+    (omega (arith, abs-is z, i64-fits f), omega (arith, abs-is z, i64-fits f))
 
-  abbrev pub turned : ℤ
-  turned = pos 0 -ℤ up
-
-  up-is : (plus up ≡ 0) × (minus up + 1 ≡ minus z)
-  up-is =
-      let b = ltZ-true z (pos 0) h in
-      let n : plus z ≡ 0 = no-pos z (omega arith) in
-      ⊎-elim (λ e. (omega (arith, bal-add z (pos 1)), omega (arith, bal-add z (pos 1)))) (λ e. (e, omega (arith, bal-add z (pos 1)))) (sign up)
-
-  turned-is : (plus turned ≡ minus up) × (minus turned ≡ 0)
-  turned-is =
-      let u = up-is in
-      ⊎-elim (λ e. (omega (arith, bal-sub (pos 0) up), e)) (λ e. (omega (arith, bal-sub (pos 0) up), omega (arith, bal-sub (pos 0) up))) (sign turned)
-
-  pub up-fits : SFits w64 up
-  up-fits = fits-i64 up (omega (arith, up-is)) (omega (arith, up-is, i64-fits f))
-
-  pub turned-fits : SFits w64 turned
-  turned-fits = fits-i64 turned (omega (arith, up-is, turned-is, i64-fits f)) (omega (arith, turned-is))
-
-  pub turned-above : minus turned ≤ plus turned
-  turned-above = omega (arith, turned-is)
-
-  pub size-is : natAbs turned + 1 ≡ natAbs z
-  size-is = let b = ltZ-true z (pos 0) h in let n : plus z ≡ 0 = no-pos z (omega arith) in omega (arith, up-is, turned-is, abs-is turned, abs-is z)
-
-  pub size-fits : natAbs turned + 1 < 2 ^ 64
-  size-fits = omega (arith, up-is, turned-is, abs-is turned, i64-fits f)
+-- The bits of any other number are its size.
+pub size-above : (z : ℤ) → ltZ z (pos 0) ≡ false → ofZ w64 z ≡ natAbs z
+size-above z h = let b = ltZ-false z (pos 0) h in bits-pos z (omega arith) ∙ sym (abs-nonneg z (omega arith))
 
 -- ---- the room of a report
 

@@ -5,6 +5,7 @@ ghost use Prim.Native.Nat.{_+_, _≤_, _<_};
 ghost use lib.ListN.{length};
 ghost use lib.IntN.{natAbs};
 ghost use Rattle.tracing.specs.Text.{ZERO, decimal, numeral, lineOf, POSITION, Puts, Writes};
+use record::twos::bits_of;
 
 // The bytes of the longest report.
 pub const ROOM: usize = 73;
@@ -73,9 +74,9 @@ fn size(z: i64) -> u64
     ensures { λ r. ⌜ r ≡ natAbs z ⌝ }
 {
     if z < 0 {
-        return (-(z + 1)) as u64 + 1;
+        return u64::MAX - bits_of(z) + 1;
     }
-    z as u64
+    bits_of(z)
 }
 
 // The line of a position, with a - below zero.

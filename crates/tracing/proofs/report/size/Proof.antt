@@ -1,46 +1,41 @@
-use mathlib.Core.Path.{_≡_}
-use mathlib.Core.Bool.{true}
+use mathlib.Core.Path.{_≡_, ap, _∙_}
+use Prim.Native.Nat.{ℕ, _+_, _-_, _^_, _<_}
 use native.Mathlib.Omega.{arith}
-use lib.IntN.{pos}
-use lib.Signed.{ltZ}
+use lib.IntN.{natAbs}
 use mir.Syntax.{w64}
-use mir.Val.{toZ, ofZ}
-use Rattle.integers.proofs.Balance.{ltZ-false}
-use Rattle.integers.proofs.Machine.{back, to-u64}
-use Rattle.tracing.proofs.TextLaws.{up-fits, turned-fits, turned-above, size-is, size-fits}
+use mir.Val.{ofZ}
+use Rattle.integers.proofs.Machine.{back}
+use Rattle.tracing.proofs.TextLaws.{size-below, size-above}
 use borrow.Author.Needs.{needs}
 use Rattle.tracing.proofs.report.size.Statement.{statement}
 use Rattle.tracing.proofs.report.size.Tie as tie
 
-module _ (c : tie.Then1) where
-  read : toZ w64 (ofZ w64 (c .before .args .z)) ≡ c .before .args .z
-  read = back (c .before .fits .z)
+-- What is known of a number below zero: its bits, and its size by them.
+module _ (c : tie.After-bits-of) where
+  below : (2 ^ 64 - 1 - c .bits-of .result + 1 ≡ natAbs (c .before .before .args .z)) × (natAbs (c .before .before .args .z) < 2 ^ 64)
+  below =
+      let f = c .before .before .fits .z in
+      rw (rw (back f) at (c .bits-of .ensures)) (size-below _ f (rw (back f) at (c .before .if1 .taken)))
 
-  below : ltZ (c .before .args .z) (pos 0) ≡ true
-  below = rw (read) at (c .if1 .taken)
-
-add-result : tie.Need-add-result
-add-result c = rw (read c) (up-fits _ (c .before .fits .z) (below c))
+bits-of-requires : tie.Need-bits-of-requires
+bits-of-requires c κs = search needs
 
 sub-result : tie.Need-sub-result
-sub-result c = let f = c .before .fits .z in rw (read c, back (up-fits _ f (below c))) (turned-fits _ f (below c))
+sub-result c = search needs
 
-cast-result : tie.Need-cast-result
-cast-result c = let f = c .before .fits .z in rw (read c, back (up-fits _ f (below c))) (to-u64 _ (turned-fits _ f (below c)) (turned-above _ f (below c)))
-
-add-result-2 : tie.Need-add-result-2
-add-result-2 c = let f = c .before .fits .z in rw (read c, back (up-fits _ f (below c)), back (turned-fits _ f (below c))) (record { fits = size-fits _ f (below c) })
+add-result : tie.Need-add-result
+add-result c = record { fits = omega (arith, below c) }
 
 returns : tie.Need-returns
-returns c = let f = c .before .fits .z in rw (read c, back (up-fits _ f (below c)), back (turned-fits _ f (below c))) (size-is _ f (below c))
+returns c = below c .0
 
-cast-result-2 : tie.Need-cast-result-2
-cast-result-2 c = let b = back (c .before .fits .z) in to-u64 _ (c .before .fits .z) (omega (arith, ltZ-false (c .before .args .z) (pos 0) (rw b at (c .if1 .left))))
+bits-of-requires-2 : tie.Need-bits-of-requires-2
+bits-of-requires-2 c κs = search needs
 
 returns-2 : tie.Need-returns-2
-returns-2 c = search needs
+returns-2 c = let f = c .before .before .fits .z in rw (back f) at (c .bits-of2 .ensures) ∙ size-above (c .before .before .args .z) (rw (back f) at (c .before .if1 .left))
 
 pub size-spec : {M : Type 1} → statement M
 size-spec =
     tie.close
-    (tie.spec add-result sub-result cast-result add-result-2 returns cast-result-2 returns-2)
+    (tie.spec bits-of-requires sub-result add-result returns bits-of-requires-2 returns-2)

@@ -1,11 +1,13 @@
 use mathlib.Core.Path.{sym}
+use mathlib.Core.List.{[], _∷_}
+use native.Mathlib.Omega.{arith}
 use Rattle.tracing.proofs.TraceLaws.{past-limit, fed-one}
 use borrow.Author.Needs.{needs}
 use Rattle.tracing.proofs.trace.Trace.taken.Statement.{statement}
 use Rattle.tracing.proofs.trace.Trace.taken.Tie as tie
 
 returns : tie.Need-returns
-returns c = sym (past-limit _ _ (c .if1 .taken))
+returns c = let a = c .before .before .args in sym (past-limit (a .self) (a .byte ∷ []) (omega arith))
 
 slice-aggregate-sample : tie.Need-slice-aggregate-sample
 slice-aggregate-sample c = search needs
@@ -17,7 +19,9 @@ add-t8 : tie.Need-add-t8
 add-t8 c = search needs
 
 returns-2 : tie.Need-returns-2
-returns-2 c = fed-one _ _ _ (c .before .before .before .before .before .if1 .left) (c .before .before .sample .ensures .table)
+returns-2 c =
+    let a = c .before .before .before .before .before .before .before .args in
+    fed-one (a .self) (a .byte) _ (omega arith) (c .before .before .sample .ensures .table)
 
 pub taken-spec : {M : Type 1} → statement M
 taken-spec = tie.close (tie.spec returns slice-aggregate-sample sample-requires add-t8 returns-2)

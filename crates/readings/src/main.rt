@@ -1,0 +1,107 @@
+// Runs the readings of document 01 that are not proved as theorems, through the public calls, and writes each on a line.
+mod say; // say.rt: answers as text
+
+use axis::kind::Kind;
+use reckon::speed::by_count;
+use reckon::widening::widen;
+use table::change::preset;
+use table::look::speed;
+use table::look::view;
+use table::port::sample;
+use table::reading::reading;
+use table::saving::save;
+use table::setup::setup;
+
+// A narrow counter's reading past its width, in a table and without one.
+fn narrow() {
+    let mut table = [0u64; 4];
+    setup(&mut table, 0, Kind::COUNTER as u64, 0, 8, 0);
+    preset(&mut table, 0, 250);
+    say::reckoned(
+        b"counter of width 8 at 250, reading 256: ",
+        reading(&mut table, 0, 256),
+    );
+    say::reckoned(
+        b"widening of width 8 from 250, reading 256: ",
+        widen(8, 250, 256),
+    );
+}
+
+// A step that would leave the range, and one back.
+fn held() {
+    let mut table = [0u64; 4];
+    setup(&mut table, 0, Kind::X4 as u64, 1, 0, 0);
+    preset(&mut table, 0, 0x3fff_ffff_ffff_ffff);
+    sample(&mut table, 0);
+    sample(&mut table, 1);
+    say::viewed(b"x4 at 2^62 - 1, codes 0, 1: ", view(&table, 0));
+    sample(&mut table, 0);
+    say::viewed(b"then code 0: ", view(&table, 0));
+}
+
+// Speeds by count.
+fn counted() {
+    say::reckoned(b"speed by count 1, T 2001, F 1: ", by_count(1, 2001, 1));
+    say::reckoned(b"speed by count 1, T 0, F 1: ", by_count(1, 0, 1));
+}
+
+// One port word, so many times.
+fn repeat(table: &mut [u64], port: u64, times: u64) {
+    let mut left = times;
+    while left > 0 {
+        sample(table, port);
+        left -= 1;
+    }
+}
+
+// Forward steps five samples apart, and the speed by period then and twelve samples later.
+fn paced() {
+    let mut table = [0u64; 4];
+    setup(&mut table, 0, Kind::X4 as u64, 1, 0, 0);
+    repeat(&mut table, 0, 5);
+    repeat(&mut table, 1, 5);
+    repeat(&mut table, 3, 5);
+    repeat(&mut table, 2, 1);
+    say::reckoned(
+        b"x4 steps 5 samples apart, F 1000: ",
+        speed(&table, 0, 1000),
+    );
+    repeat(&mut table, 2, 12);
+    say::reckoned(
+        b"12 samples after the last, F 1000: ",
+        speed(&table, 0, 1000),
+    );
+}
+
+// The words of a setup, and a setup past its limits.
+fn set_up() {
+    let mut table = [0u64; 4];
+    setup(&mut table, 0, Kind::X4 as u64, 3, 0, 4096);
+    say::words(b"setup x4, depth 3, 4096 a turn:", &table);
+    say::done(
+        b"setup x4, depth 9, 4096 a turn: ",
+        setup(&mut table, 0, Kind::X4 as u64, 9, 0, 4096),
+    );
+}
+
+// A record, and a buffer that is a byte too short for it.
+fn saved() {
+    let mut table = [0u64; 4];
+    let mut buf = [0u8; 34];
+    let mut short = [0u8; 33];
+    setup(&mut table, 0, Kind::X4 as u64, 3, 0, 4096);
+    preset(&mut table, 0, -2);
+    let whole = save(&table, 0, &mut buf);
+    say::written(b"x4, depth 3, 4096 a turn, at -2, saved:", whole, &buf);
+    let refused = save(&table, 0, &mut short);
+    say::written(b"saved in 33 bytes:", refused, &short);
+}
+
+fn main() {
+    narrow();
+    held();
+    counted();
+    paced();
+    set_up();
+    saved();
+}

@@ -1,0 +1,123 @@
+// Answers as text on standard output.
+use calls::answer::Done;
+use calls::answer::Viewed;
+use libc::STDOUT_FILENO;
+use reckon::Reckoned;
+use record::answer::Written;
+use record::twos::bits_of;
+use refusal::Refusal;
+
+fn text(bytes: &[u8]) {
+    io::write_all(STDOUT_FILENO, bytes);
+}
+
+// A whole number, with a leading - below zero.
+fn number(n: i64) {
+    if n < 0 {
+        text(b"-");
+        io::print_decimal(STDOUT_FILENO, std::num::wrapping_sub_u64(0, bits_of(n)));
+    } else {
+        io::print_decimal(STDOUT_FILENO, bits_of(n));
+    }
+}
+
+// The name of a reason.
+fn reason(e: Refusal) {
+    match e {
+        Refusal::Length => text(b"LENGTH"),
+        Refusal::Axis => text(b"AXIS"),
+        Refusal::Broken => text(b"BROKEN"),
+        Refusal::Empty => text(b"EMPTY"),
+        Refusal::Kind => text(b"KIND"),
+        Refusal::Value => text(b"VALUE"),
+        Refusal::Half => text(b"HALF"),
+        Refusal::Range => text(b"RANGE"),
+        Refusal::NoPeriod => text(b"NO PERIOD"),
+        Refusal::Room => text(b"ROOM"),
+        Refusal::Layout(_) => text(b"LAYOUT"),
+        Refusal::Record => text(b"RECORD"),
+    }
+}
+
+// A number that was reckoned, or the reason.
+pub fn reckoned(label: &[u8], answer: Reckoned) {
+    text(label);
+    match answer {
+        Reckoned::Number(n) => number(n),
+        Reckoned::Refused(e) => reason(e),
+    }
+    text(b"\n");
+}
+
+// That a call was done, or the reason.
+pub fn done(label: &[u8], answer: Done) {
+    text(label);
+    match answer {
+        Done::Yes => text(b"done"),
+        Done::Refused(e) => reason(e),
+    }
+    text(b"\n");
+}
+
+// The position of an axis and whether RANGE is set, or the reason.
+pub fn viewed(label: &[u8], answer: Viewed) {
+    text(label);
+    match answer {
+        Viewed::Shows(v) => {
+            number(v.position);
+            if v.range {
+                text(b" RANGE");
+            }
+        }
+        Viewed::Refused(e) => reason(e),
+    }
+    text(b"\n");
+}
+
+// A word behind a space.
+fn word(w: u64) {
+    text(b" ");
+    io::print_decimal(STDOUT_FILENO, w);
+}
+
+fn all_words(words: &[u64]) {
+    let mut i = 0;
+    while i < words.len() {
+        word(words[i]);
+        i += 1;
+    }
+}
+
+// The words of a table.
+pub fn words(label: &[u8], words: &[u64]) {
+    text(label);
+    all_words(words);
+    text(b"\n");
+}
+
+// A byte in hexadecimal behind a space.
+fn byte(b: u8) {
+    text(b" ");
+    io::print_hex(STDOUT_FILENO, b as u64, 2);
+}
+
+fn all_bytes(bytes: &[u8]) {
+    let mut i = 0;
+    while i < bytes.len() {
+        byte(bytes[i]);
+        i += 1;
+    }
+}
+
+// The buffer that a record was written to, or the reason.
+pub fn written(label: &[u8], answer: Written, buf: &[u8]) {
+    text(label);
+    match answer {
+        Written::Bytes(_) => all_bytes(buf),
+        Written::Refused(e) => {
+            text(b" ");
+            reason(e);
+        }
+    }
+    text(b"\n");
+}
