@@ -1,8 +1,11 @@
 /*
- * Ubrenchip: the encoder operations that need no table, for C.
+ * Ubrenchip: encoder axes in a table that the caller lends, and the operations that need no table, for C.
  *
- * Every call tests its own arguments and always returns. None keeps anything between calls, so any
- * number of threads may call at once. Link with libhost.a (see README.md, "The C host").
+ * Every call tests its own arguments and always returns. A refused call changes no word of the table and
+ * no byte of a buffer. What the caller still owes: each pointer with its length is valid memory, aligned
+ * for its type (a null pointer with length 0 is an empty slice); the two slices of a save or a restore do
+ * not overlap; and nobody else touches that memory while a call runs. Nothing is kept between calls.
+ * docs/HOSTS.md shows how to build and link.
  */
 #ifndef UBRENCHIP_H
 #define UBRENCHIP_H
@@ -31,12 +34,14 @@ enum ubrenchip_refusal {
     UBRENCHIP_RECORD = 12    /* not a record, or a misshapen one */
 };
 
-/* What a call answers. On a refusal the value is 0; `found` is 0 but for LAYOUT. */
+/* What most calls answer. On a refusal the value is 0; `found` is 0 but for LAYOUT. */
 typedef struct ubrenchip_answer {
     uint32_t refusal; /* UBRENCHIP_DONE, or why not */
     uint32_t found;   /* the layout number that LAYOUT found */
     int64_t value;    /* the call's value */
 } ubrenchip_answer;
+
+/* ---- without a table: the locator's own three ---- */
 
 /*
  * The position that `reading`, the count of a counter of `width` bits, says, where the last known
@@ -54,6 +59,85 @@ ubrenchip_answer ubrenchip_widen(uint64_t width, int64_t position, uint64_t read
  * Refusal: VALUE.
  */
 ubrenchip_answer ubrenchip_speed_by_count(int64_t difference, uint64_t samples, uint64_t rate);
+
+/*
+ * Whether a slice of bytes is a saved record, the whole of it; value 0.
+ * Refusals: LAYOUT with the number found, RECORD, VALUE, in the order of the record's own checks.
+ */
+ubrenchip_answer ubrenchip_test_record(const uint8_t *record, size_t length);
+
+/* ---- with a table ----
+ *
+ * A table is 4n words for n axes, n from 1 to 16, zeroed at first: every axis is then empty. `words` is
+ * the number of words. The calls that name an axis refuse LENGTH, then AXIS, then BROKEN and EMPTY
+ * (setup, erase and restore never do), then KIND, and then what each names below.
+ */
+
+/* What a port sample answers: bit k of each mask is axis k's. All are 0 on a refusal. */
+typedef struct ubrenchip_sampled {
+    uint32_t refusal;
+    uint32_t found;   /* 0 */
+    uint64_t doubles; /* a double step on this sample: the count is not to be trusted */
+    uint64_t index;   /* filtered Z rose on this sample */
+    uint64_t broken;  /* the row is broken */
+} ubrenchip_sampled;
+
+/*
+ * One sample of the port: axis k owns bits 4k to 4k + 3, which are A, B, Z and one that is not read.
+ * Refusal: LENGTH only. A broken row is marked and stops no other.
+ */
+ubrenchip_sampled ubrenchip_sample(uint64_t *table, size_t words, uint64_t port);
+
+/*
+ * Sets an axis up anew, whatever the row held. Kinds 1, 2 and 4 (x1, x2, x4): depth 1 to 8, width 0,
+ * counts per turn 0 to 2^32 - 1, 0 for no index check. Kind 8 (a narrow counter): width 2 to 32, depth 0,
+ * counts per turn 0. Refusal: VALUE.
+ */
+ubrenchip_answer ubrenchip_setup(uint64_t *table, size_t words, uint64_t axis, uint64_t kind, uint64_t depth,
+                                 uint64_t width, uint64_t turn);
+
+/* Empties a row, whatever it held. */
+ubrenchip_answer ubrenchip_erase(uint64_t *table, size_t words, uint64_t axis);
+
+/* Sets the position and clears RANGE and HOMED. Refusal: VALUE. */
+ubrenchip_answer ubrenchip_preset(uint64_t *table, size_t words, uint64_t axis, int64_t position);
+
+/* Makes the next index rise home the axis. Sampled axes only. */
+ubrenchip_answer ubrenchip_arm(uint64_t *table, size_t words, uint64_t axis);
+
+/* Sets doubles to 0 and clears INDEX. Sampled axes only. */
+ubrenchip_answer ubrenchip_acknowledge(uint64_t *table, size_t words, uint64_t axis);
+
+/* What a view shows; all 0 on a refusal. A flag is 0 or 1; a counter has no flags and no doubles. */
+typedef struct ubrenchip_view {
+    uint32_t refusal;
+    uint32_t found; /* 0 */
+    int64_t position;
+    uint32_t kind;
+    uint32_t doubles;
+    uint32_t primed;
+    uint32_t armed;
+    uint32_t homed;
+    uint32_t range;
+    uint32_t index;
+    uint32_t unused; /* 0 */
+} ubrenchip_view;
+
+/* Looks at an axis. */
+ubrenchip_view ubrenchip_look(const uint64_t *table, size_t words, uint64_t axis);
+
+/* A narrow counter's reading: stores and answers the position. Refusals: VALUE, HALF, RANGE. */
+ubrenchip_answer ubrenchip_reading(uint64_t *table, size_t words, uint64_t axis, uint64_t reading);
+
+/* Speed by period at `rate` samples a second, in thousandths of a count a second. Refusals: VALUE, NO PERIOD. */
+ubrenchip_answer ubrenchip_speed_by_period(const uint64_t *table, size_t words, uint64_t axis, uint64_t rate);
+
+/* Saves an axis's configuration and position as a record, 34 or 27 bytes, whose number is answered. Refusal: ROOM. */
+ubrenchip_answer ubrenchip_save(const uint64_t *table, size_t words, uint64_t axis, uint8_t *buffer, size_t length);
+
+/* Sets an axis up from a whole record, whatever the row held. Refusals: those of ubrenchip_test_record. */
+ubrenchip_answer ubrenchip_restore(uint64_t *table, size_t words, uint64_t axis, const uint8_t *record,
+                                   size_t length);
 
 #ifdef __cplusplus
 }

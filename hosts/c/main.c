@@ -1,24 +1,5 @@
 /* The C host's check: document 01's readings and edge values, through the header that C programs use. */
-#include <stdint.h>
-#include <stdio.h>
-#include "ubrenchip.h"
-
-static int checks, wrong;
-
-static void expect(const char *what, ubrenchip_answer got, uint32_t refusal, uint32_t found, int64_t value)
-{
-    checks++;
-    if (got.refusal == refusal && got.found == found && got.value == value)
-        return;
-    wrong++;
-    printf("WRONG: %s: refusal %u, found %u, value %lld; it should be %u, %u, %lld\n", what, (unsigned)got.refusal,
-           (unsigned)got.found, (long long)got.value, (unsigned)refusal, (unsigned)found, (long long)value);
-}
-
-#define TOP INT64_C(4611686018427387903) /* 2^62 - 1 */
-#ifndef INT64_C
-#define INT64_C(n) n##LL
-#endif
+#include "check.h"
 
 static void widening(void)
 {
@@ -70,14 +51,45 @@ static void speed(void)
     expect("the least number", ubrenchip_speed_by_count(INT64_MIN, 1, 1), UBRENCHIP_VALUE, 0, 0);
 }
 
+/* x4, depth 3, 4096 a turn, position -2. */
+static const uint8_t saved[34] = {0x01, 0x00, 0x02, 0x00, 0x01, 0x02, 0x00, 0x01, 0x04, 0x03, 0x00, 0x08,
+                                  0xFF, 0xFF, 0xFF, 0xFF, 0xFF, 0xFF, 0xFF, 0xFE, 0x04, 0x00, 0x01, 0x03,
+                                  0x06, 0x00, 0x04, 0x00, 0x00, 0x10, 0x00, 0x7F, 0x00, 0x00};
+
+/* The saved record with one byte changed, tested at a length. */
+static ubrenchip_answer changed(unsigned at, uint8_t to, size_t length)
+{
+    uint8_t record[40] = {0};
+    for (unsigned i = 0; i < sizeof saved; i++)
+        record[i] = i == at ? to : saved[i];
+    return ubrenchip_test_record(record, length);
+}
+
+static void records(void)
+{
+    expect("the saved record", ubrenchip_test_record(saved, 34), UBRENCHIP_DONE, 0, 0);
+    expect("one byte short", ubrenchip_test_record(saved, 33), UBRENCHIP_RECORD, 0, 0);
+    expect("one byte more", changed(0, 0x01, 35), UBRENCHIP_RECORD, 0, 0);
+    expect("no bytes at all", ubrenchip_test_record(NULL, 0), UBRENCHIP_RECORD, 0, 0);
+    expect("layout 2", changed(4, 0x02, 34), UBRENCHIP_LAYOUT, 2, 0);
+    expect("layout 0", changed(4, 0x00, 34), UBRENCHIP_LAYOUT, 0, 0);
+    expect("layout 0x0301", changed(3, 0x03, 34), UBRENCHIP_LAYOUT, 0x0301, 0);
+    expect("layout 2, five bytes", changed(4, 0x02, 5), UBRENCHIP_LAYOUT, 2, 0);
+    expect("layout 2, four bytes", changed(3, 0x07, 4), UBRENCHIP_RECORD, 0, 0);
+    expect("kind 3", changed(8, 0x03, 34), UBRENCHIP_VALUE, 0, 0);
+    expect("kind 3, nine bytes", changed(8, 0x03, 9), UBRENCHIP_VALUE, 0, 0);
+    expect("kind 4, nine bytes", changed(8, 0x04, 9), UBRENCHIP_RECORD, 0, 0);
+    expect("depth 0", changed(23, 0x00, 34), UBRENCHIP_VALUE, 0, 0);
+    expect("depth 9", changed(23, 0x09, 34), UBRENCHIP_VALUE, 0, 0);
+    expect("a position outside its range", changed(12, 0xBF, 34), UBRENCHIP_VALUE, 0, 0);
+    expect("another end", changed(31, 0x7E, 34), UBRENCHIP_RECORD, 0, 0);
+}
+
 int main(void)
 {
     widening();
     speed();
-    if (wrong) {
-        printf("%d of %d checks are wrong\n", wrong, checks);
-        return 1;
-    }
-    printf("the C host: %d checks, none wrong\n", checks);
-    return 0;
+    records();
+    return verdict("the C host", 1u << UBRENCHIP_VALUE | 1u << UBRENCHIP_HALF | 1u << UBRENCHIP_RANGE | 1u << UBRENCHIP_LAYOUT |
+                                     1u << UBRENCHIP_RECORD);
 }

@@ -1,8 +1,9 @@
 -- What a row's status gives to the calls: the words that they read, and an axis that packs again.
 use Prim.Native.Nat.{ℕ, _<_, _^_}
 use native.Mathlib.Omega.{arith}
-use mathlib.Core.Path.{_≡_, refl, sym, ap, subst, _∙_}
-use mathlib.Core.Bool.{Bool, true}
+use mathlib.Core.Path.{_≡_, refl, sym, ap, subst}
+use mathlib.Core.Logic.{_⊎_, inl, inr, ⊎-elim}
+use mathlib.Core.Bool.{Bool, true, false, cond}
 use lib.IntN.{ℤ}
 use mir.Syntax.{w64}
 use mir.Val.{toZ, ofZ}
@@ -55,20 +56,45 @@ packs a r e word armed homed range index doubles below =
 pub held-position : (p : ℤ) → inRange p ≡ true → toZ w64 (ofZ w64 p) ≡ p
 held-position p e = back (fits-size p (omega (arith, range-is p e)))
 
+-- A call that is not refused is on a sampled row or on a counter.
+pub live : {A : Type 0} (refuse : Refusal → A) (sampled counter a : A) → ((e : Refusal) → refuse e ≡ a → ⊥) → (s : Status) →
+    byStatus refuse sampled counter s ≡ a → ((s ≡ Sampled) × (sampled ≡ a)) ⊎ ((s ≡ Counter) × (counter ≡ a))
+live refuse sampled counter a never Broken e = absurd (never BROKEN e)
+live refuse sampled counter a never Empty e = absurd (never EMPTY e)
+live refuse sampled counter a never Sampled e = inl (refl, e)
+live refuse sampled counter a never Counter e = inr (refl, e)
+
+-- A row that is sampled or a counter.
+abbrev pub Live : Row → Type 0
+Live r = (statusOf r ≡ Sampled) ⊎ (statusOf r ≡ Counter)
+
+-- It has a position.
+pub live-position : (r : Row) → Live r → Positioned r
+live-position r (inl e) = sampled-positioned r e
+live-position r (inr e) = counter-positioned r e
+
+-- A row whose status goes by its kind is one.
+pub made-live : (q : Row) (b : Bool) → statusOf q ≡ cond b Sampled Counter → Live q
+made-live q true e = inl e
+made-live q false e = inr e
+
+-- A call that does the same on both kinds does that on such a row.
+pub either-kind : {A : Type 0} (refuse : Refusal → A) (x : A) (r : Row) → Live r → byStatus refuse x x (statusOf r) ≡ x
+either-kind refuse x r (inl e) = ap (byStatus refuse x x) e
+either-kind refuse x r (inr e) = ap (byStatus refuse x x) e
+
+-- What is refused is no number.
+pub refused-not : (p : ℤ) (e : Refusal) → Refused e ≡ Number p → ⊥
+refused-not p e h = let z : _≡_ {A = ℕ} 0 1 = cc in omega arith
+
 -- A reading that is accepted was one of a counter row.
 pub read-counter : (x : ℕ) (r : Row) (p : ℤ) → readingRow x r ≡ Number p → (statusOf r ≡ Counter) × (readingOf x (axisOf r) ≡ Number p)
 unfolding readingRow
-read-counter x r p e = go (statusOf r) refl e
-  where
-    no : {A : Type 0} (f : Refusal) → Refused f ≡ Number p → A
-    no f q = absurd (let z : _≡_ {A = ℕ} 0 1 = cc in omega arith)
-
-    go : (s : Status) → statusOf r ≡ s → byStatus Refused (Refused KIND) (readingOf x (axisOf r)) s ≡ Number p →
-        (statusOf r ≡ Counter) × (readingOf x (axisOf r) ≡ Number p)
-    go Broken h q = no BROKEN q
-    go Empty h q = no EMPTY q
-    go Sampled h q = no KIND q
-    go Counter h q = (h, q)
+read-counter x r p e =
+    ⊎-elim
+    (λ h. absurd (refused-not p KIND (h .1)))
+    (λ h. h)
+    (live Refused (Refused KIND) (readingOf x (axisOf r)) (Number p) (refused-not p) (statusOf r) e)
 
 -- A position that was read is in the range.
 pub read-in-range : (x : ℕ) (r : Row) (p : ℤ) → readingRow x r ≡ Number p → inRange p ≡ true

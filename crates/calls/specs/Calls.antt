@@ -1,6 +1,6 @@
 -- What each call makes of the named row, and answers: document 01, "Calls that name one axis" and "The saved record".
 use Prim.Native.Nat.{ℕ, _<_, _^_, max}
-use mathlib.Core.Bool.{Bool, cond}
+use mathlib.Core.Bool.{cond}
 use mathlib.Core.List.{List}
 use lib.Dec.{eqb}
 use lib.IntN.{ℤ, pos, negsuc}
@@ -39,13 +39,23 @@ byStatus refuse sampled counter Empty = refuse EMPTY
 byStatus refuse sampled counter Sampled = sampled
 byStatus refuse sampled counter Counter = counter
 
+-- The row that a call leaves: the one that it made, or the row as it was.
+abbrev pub leftBy : Row → Changed → Row
+leftBy r (To q) = q
+leftBy r (Kept e) = r
+
+-- One call after another: the second takes the row that the first made, and a refusal of the first stands.
+abbrev pub andThen : Changed → (Row → Changed) → Changed
+andThen (To q) next = next q
+andThen (Kept e) next = Kept e
+
 -- ---- setup and erase, which take any row
 
 -- The configuration of four numbers.
 abbrev pub configOf : ℕ → ℕ → ℕ → ℕ → Config
 configOf kind depth width turn = record { kind = kind; depth = depth; width = width; turn = turn }
 
--- Setup replaces the row, or refuses its arguments.
+-- Setup replaces the row, or refuses four numbers that are no configuration.
 unfoldable pub setupRow : ℕ → ℕ → ℕ → ℕ → Row → Changed
 setupRow kind depth width turn r =
     cond (goodConfig kind depth width turn) (To (rowOf (fresh (configOf kind depth width turn)))) (Kept VALUE)
@@ -66,7 +76,7 @@ pub record Positioned (r : Row) : Type 0 where
 unfoldable pub placeRow : ℤ → Row → Changed
 placeRow p r = cond (inRange p) (To (rowOf (presetAxis p (axisOf r)))) (Kept VALUE)
 
--- Preset.
+-- Preset, on a sampled row and on a counter.
 unfoldable pub presetRow : ℤ → Row → Changed
 presetRow p r = byStatus Kept (placeRow p r) (placeRow p r) (statusOf r)
 
@@ -78,7 +88,7 @@ armRow r = byStatus Kept (To (rowOf (armAxis (axisOf r)))) (Kept KIND) (statusOf
 unfoldable pub acknowledgeRow : Row → Changed
 acknowledgeRow r = byStatus Kept (To (rowOf (acknowledgeAxis (axisOf r)))) (Kept KIND) (statusOf r)
 
--- View.
+-- The answer of a view, on a sampled row and on a counter.
 unfoldable pub viewRow : Row → Viewed
 viewRow r = byStatus Unseen (Shows (viewOf (axisOf r))) (Shows (viewOf (axisOf r))) (statusOf r)
 
@@ -86,7 +96,7 @@ viewRow r = byStatus Unseen (Shows (viewOf (axisOf r))) (Shows (viewOf (axisOf r
 abbrev pub readingOf : ℕ → Axis → Reckoned
 readingOf x a = widened (a .width) (positionOf (a .word)) x
 
--- The answer of a reading.
+-- The answer of a reading, on a counter only.
 unfoldable pub readingRow : ℕ → Row → Reckoned
 readingRow x r = byStatus Unreckoned (Unreckoned KIND) (readingOf x (axisOf r)) (statusOf r)
 
@@ -103,14 +113,18 @@ readRow x r = storedRow r (readingRow x r)
 abbrev pub signOf : ℕ → ℤ
 signOf d = cond (eqb d 2) (negsuc 0) (pos 1)
 
--- Speed by period on a sampled row: one count over the larger of period and age.
+-- The samples that one count took or has taken so far: the larger of period and age.
+abbrev pub spanOf : Axis → ℕ
+spanOf a = max (a .period) (a .age)
+
+-- Speed by period on a sampled row: one count over that many samples.
 unfoldable pub speedOf : ℕ → Axis → Reckoned
 speedOf rate a =
     cond (goodRate rate)
-    (cond (eqb (a .period) 0) (Unreckoned NO-PERIOD) (speedByCount (signOf (a .direction)) (max (a .period) (a .age)) rate))
+    (cond (eqb (a .period) 0) (Unreckoned NO-PERIOD) (speedByCount (signOf (a .direction)) (spanOf a) rate))
     (Unreckoned VALUE)
 
--- Speed by period.
+-- The answer of speed by period, on a sampled row only.
 unfoldable pub speedRow : ℕ → Row → Reckoned
 speedRow rate r = byStatus Unreckoned (speedOf rate (axisOf r)) (Unreckoned KIND) (statusOf r)
 
@@ -119,23 +133,23 @@ speedRow rate r = byStatus Unreckoned (speedOf rate (axisOf r)) (Unreckoned KIND
 -- What an axis saves: its configuration and its position.
 abbrev pub savedOf : Axis → Saved
 savedOf a = record {
-  config = record { kind = a .kind; depth = a .depth; width = a .width; turn = a .turn };
+  config = configOf (a .kind) (a .depth) (a .width) (a .turn);
   position = positionOf (a .word);
 }
 
--- The answer of a save, by the room in the buffer.
+-- The answer of a save, on a sampled row and on a counter, by the room in the buffer.
 unfoldable pub saveRow : ℕ → Row → Written
 saveRow room r = byStatus Unwritten (savedAs room (savedOf (axisOf r))) (savedAs room (savedOf (axisOf r))) (statusOf r)
 
--- What a save leaves in the buffer.
+-- What a save leaves in the buffer: the record at its front, or on a refusal all as it was.
 unfoldable pub savedIn : List ℕ → Row → List ℕ
 savedIn buf r = byStatus (λ _. buf) (written buf (savedOf (axisOf r))) (written buf (savedOf (axisOf r))) (statusOf r)
 
--- What a record that was read makes of any row: the row of setup and then preset.
+-- What a record that was read makes of any row: its configuration at its position, all else 0.
 unfoldable pub restoredBy : Read → Changed
 restoredBy (Accepted s) = To (rowOf (freshAt (s .config) (wordOf (s .position))))
 restoredBy (Unread e) = Kept e
 
--- Restore takes any row.
+-- Restore, which takes any row.
 unfoldable pub restoreRow : List ℕ → Row → Changed
-restoreRow record' r = restoredBy (readAs record')
+restoreRow slice r = restoredBy (readAs slice)

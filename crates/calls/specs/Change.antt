@@ -1,9 +1,14 @@
 -- What an accepted call makes of an axis: document 01, "Calls that name one axis".
 use Prim.Native.Nat.{ℕ}
+use mathlib.Core.Path.{_≡_}
 use mathlib.Core.Bool.{Bool, true, false}
 use lib.IntN.{ℤ}
 use Rattle.position.specs.Position.{wordOf}
+use Rattle.axis.specs.Row.{axisOf, Words}
+use Rattle.axis.specs.Sound.{statusOf}
 use Rattle.axis.specs.declared.row.Axis.{Axis}
+use Rattle.axis.specs.declared.row.Row.{Row}
+use Rattle.axis.specs.declared.sound.Status.{Status}
 
 -- An axis with another word, other flags ARMED, HOMED, RANGE and INDEX, and other doubles; all else stays.
 unfoldable pub changed : Axis → ℕ → Bool → Bool → Bool → Bool → ℕ → Axis
@@ -41,3 +46,9 @@ acknowledgeAxis x = changed x (x .word) (x .armed) (x .homed) (x .range) false 0
 -- A reading that is accepted sets the position.
 abbrev pub readAxis : ℤ → Axis → Axis
 readAxis p x = changed x (wordOf p) (x .armed) (x .homed) (x .range) (x .index) (x .doubles)
+
+-- A row of four 64-bit words that has a status and holds an axis.
+pub record Holds (q : Row) (s : Status) (a : Axis) : Type 0 where
+  pub status : statusOf q ≡ s
+  pub axis : axisOf q ≡ a
+  pub words : Words q

@@ -1,3 +1,5 @@
 pub mod Change
 pub mod Answer
 pub mod Calls
+pub mod Reasons
+pub mod Counter

@@ -17,11 +17,11 @@ fn placed(r: Row, position: i64) -> Changed
     if !position::in_range(position) {
         return Changed::Kept(Refusal::Value);
     }
-    let mut a = unpack(r);
-    a.word = position::word_of(position);
-    a.homed = false;
-    a.range = false;
-    Changed::To(pack(a))
+    let mut moved = unpack(r);
+    moved.word = position::word_of(position);
+    moved.homed = false;
+    moved.range = false;
+    Changed::To(pack(moved))
 }
 
 // Preset: another position.
@@ -45,10 +45,10 @@ pub fn arm(r: Row) -> Changed
         Status::Empty => Changed::Kept(Refusal::Empty),
         Status::Counter => Changed::Kept(Refusal::Kind),
         Status::Sampled => {
-            let mut a = unpack(r);
-            a.armed = true;
-            a.homed = false;
-            Changed::To(pack(a))
+            let mut armed = unpack(r);
+            armed.armed = true;
+            armed.homed = false;
+            Changed::To(pack(armed))
         }
     }
 }
@@ -62,10 +62,10 @@ pub fn acknowledge(r: Row) -> Changed
         Status::Empty => Changed::Kept(Refusal::Empty),
         Status::Counter => Changed::Kept(Refusal::Kind),
         Status::Sampled => {
-            let mut a = unpack(r);
-            a.index = false;
-            a.doubles = 0;
-            Changed::To(pack(a))
+            let mut seen = unpack(r);
+            seen.index = false;
+            seen.doubles = 0;
+            Changed::To(pack(seen))
         }
     }
 }

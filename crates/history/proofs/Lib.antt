@@ -11,3 +11,10 @@ pub mod ToldLaws
 pub mod HistoryLaws
 pub mod StartLaws
 pub mod ShaftLaws
+pub mod SampledLaws
+pub mod PhaseLaws
+pub mod EventLaws
+pub mod RowHistory
+pub mod LastingLaws
+pub mod SampledHistory
+pub mod CounterHistory

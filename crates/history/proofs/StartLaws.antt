@@ -1,4 +1,4 @@
--- Where a history may start: at the axis that a setup or a restore makes, and at the axis after any history.
+-- Where a history may start: at the axis of any sampled row, at the axis that a setup or a restore makes, and at the axis after any history.
 use mathlib.Core.Path.{_≡_, refl, ap}
 use mathlib.Core.Bool.{true}
 use mathlib.Core.List.{List, [], _∷_, _++_}
@@ -7,9 +7,13 @@ use native.Mathlib.Omega.{arith}
 use lib.IntN.{ℤ}
 use Rattle.position.specs.Position.{inRange, wordOf}
 use Rattle.position.proofs.PositionLaws.{word-low, word-high}
-use Rattle.axis.specs.Row.{freshAt}
+use Rattle.axis.specs.Row.{axisOf, freshAt}
+use Rattle.axis.specs.Sound.{statusOf, SampledAxis}
 use Rattle.axis.specs.declared.config.Config.{Config}
 use Rattle.axis.specs.declared.row.Axis.{Axis}
+use Rattle.axis.specs.declared.row.Row.{Row}
+use Rattle.axis.specs.declared.sound.Status.the-variants.{Sampled}
+use Rattle.axis.proofs.SoundLaws.{sampled-gives}
 use Rattle.motion.specs.Lines.{Wire, A, B, Z, placeOf, line}
 use Rattle.history.specs.Acts.{Act, act, after, Legal}
 use Rattle.history.specs.Start.{Start}
@@ -18,6 +22,28 @@ use Rattle.history.specs.Pace.{ageOf}
 use Rattle.history.specs.Told.{told}
 use Rattle.history.proofs.LevelsLaws.{line-told, run-short}
 use Rattle.history.proofs.ToldLaws.{position-in, whole-history}
+
+-- A sampled axis may start a history.
+pub start-sampled : {x : Axis} → SampledAxis x → Start x
+unfolding line placeOf
+start-sampled {x} s = record {
+  low = s .above;
+  high = s .below;
+  short = short;
+  levels = s .levels;
+  runs = s .runs;
+  doubles = omega (arith, s .doubles);
+  age = s .age;
+}
+  where
+    short : (w : Wire) → line x w .run < x .depth
+    short A = s .runA
+    short B = s .runB
+    short Z = s .runZ
+
+-- HEADLINE: the axis of a sampled row may start a history.
+pub start-sound : (r : Row) → statusOf r ≡ Sampled → Start (axisOf r)
+start-sound r e = start-sampled (sampled-gives r e)
 
 -- HEADLINE: the axis that a setup or a restore makes may start a history.
 pub start-fresh : (c : Config) (p : ℤ) → 0 < c .depth → inRange p ≡ true → Start (freshAt c (wordOf p))

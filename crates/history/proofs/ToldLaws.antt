@@ -57,7 +57,8 @@ module _ (x : Axis) (start : Start x) where
   age-first : min (2 ^ 32 - 1) (x .age) ≡ x .age
   age-first = omega (arith, start .age)
 
-  told-first : told x [] ≡ x
+  -- An empty history tells the starting axis.
+  pub told-first : told x [] ≡ x
   unfolding told primedAt armedAt homedAt indexAt placeTally walk heldIn doublesTally numberOfE entries directionOf gapOf ageOf periodOf
   told-first = λ i. record {
     word = word-position (x .word) (start .low) (start .high) i;
@@ -98,7 +99,8 @@ module _ (x : Axis) (start : Start x) where
 
   -- ---- the acts
 
-  sample-told : (s : Raw) (h : List Act) → Legal h → stepAxis (told x h) s ≡ answered x s h
+  -- A sample on the axis that a history tells.
+  pub sample-told : (s : Raw) (h : List Act) → Legal h → stepAxis (told x h) s ≡ answered x s h
   unfolding stepAxis told
   sample-told s h l = go (primedAt x h) refl
     where
@@ -106,7 +108,8 @@ module _ (x : Axis) (start : Start x) where
       go true q = settles x start s h (value-in-range h l) q
       go false q = primes x s h q
 
-  act-told : (a : Act) (h : List Act) → Legal (a ∷ h) → act (told x h) a ≡ told x (a ∷ h)
+  -- An act on the axis that a history tells.
+  pub act-told : (a : Act) (h : List Act) → Legal (a ∷ h) → act (told x h) a ≡ told x (a ∷ h)
   unfolding act changed answered told primedAt since levelAt runAt armedAt homedAt indexAt placeTally walk heldIn doublesTally numberOfE entries
   act-told (sampled s) h l = ap (λ (o : Stepped). o .axis) (sample-told s h (l .1))
   act-told (preset p) h l = refl

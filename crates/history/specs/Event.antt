@@ -1,12 +1,17 @@
 -- What can happen to one axis, and what it makes of the axis's row: document 01, "A port sample" and "Calls that name one axis".
 use Prim.Native.Nat.{ℕ}
+use mathlib.Core.Path.{_≡_}
 use mathlib.Core.List.{List, [], _∷_}
 use lib.IntN.{ℤ}
+use lib.ListN.{length}
+use Rattle.refusal.specs.declared.Refusal.{Refusal}
+use Rattle.reckon.specs.declared.Reckoned.the-variants.{Refused as Unreckoned}
 use Rattle.axis.specs.declared.row.Row.{Row}
 use Rattle.motion.specs.Step.{stepRow}
-use Rattle.calls.specs.Calls.{setupRow, eraseRow, presetRow, armRow, acknowledgeRow, readRow, restoreRow}
-use Rattle.calls.specs.declared.answer.Changed.{Changed}
-use Rattle.calls.specs.declared.answer.Changed.the-variants.{To, Kept}
+use Rattle.record.specs.declared.answer.Written.the-variants.{Refused as Unwritten}
+use Rattle.calls.specs.Calls.{leftBy, setupRow, eraseRow, presetRow, armRow, acknowledgeRow, viewRow, readingRow, readRow, speedRow, saveRow, restoreRow}
+use Rattle.calls.specs.declared.answer.Changed.the-variants.{Kept}
+use Rattle.calls.specs.declared.answer.Viewed.the-variants.{Refused as Unseen}
 
 -- A call that names the axis, with any arguments: setup by kind, depth, width and counts per turn, save by what the buffer holds, restore by the
 -- record's bytes.
@@ -25,23 +30,31 @@ pub data Event : Type 0 where
   bits : ℕ → Event
   asked : Op → Event
 
--- A row after a call's rule: the new row, or the row as it was where the call is refused.
-abbrev pub kept : Row → Changed → Row
-kept r (To s) = s
-kept r (Kept e) = r
-
 -- A row after a call.
 unfoldable pub rowAfter : Row → Op → Row
-rowAfter r (setup kind depth width turn) = kept r (setupRow kind depth width turn r)
-rowAfter r erase = kept r (eraseRow r)
-rowAfter r (preset p) = kept r (presetRow p r)
-rowAfter r arm = kept r (armRow r)
-rowAfter r acknowledge = kept r (acknowledgeRow r)
+rowAfter r (setup kind depth width turn) = leftBy r (setupRow kind depth width turn r)
+rowAfter r erase = leftBy r (eraseRow r)
+rowAfter r (preset p) = leftBy r (presetRow p r)
+rowAfter r arm = leftBy r (armRow r)
+rowAfter r acknowledge = leftBy r (acknowledgeRow r)
 rowAfter r view = r
-rowAfter r (reading x) = kept r (readRow x r)
+rowAfter r (reading x) = leftBy r (readRow x r)
 rowAfter r (speed rate) = r
 rowAfter r (save buffer) = r
-rowAfter r (restore bytes) = kept r (restoreRow bytes r)
+rowAfter r (restore bytes) = leftBy r (restoreRow bytes r)
+
+-- A call on a row is refused.
+abbrev pub Refused : Row → Op → Refusal → Type 0
+Refused r (setup kind depth width turn) e = setupRow kind depth width turn r ≡ Kept e
+Refused r erase e = eraseRow r ≡ Kept e
+Refused r (preset p) e = presetRow p r ≡ Kept e
+Refused r arm e = armRow r ≡ Kept e
+Refused r acknowledge e = acknowledgeRow r ≡ Kept e
+Refused r view e = viewRow r ≡ Unseen e
+Refused r (reading x) e = readingRow x r ≡ Unreckoned e
+Refused r (speed rate) e = speedRow rate r ≡ Unreckoned e
+Refused r (save buffer) e = saveRow (length buffer) r ≡ Unwritten e
+Refused r (restore bytes) e = restoreRow bytes r ≡ Kept e
 
 -- A row after an event.
 unfoldable pub rowNext : Row → Event → Row

@@ -11,3 +11,6 @@ pub mod Told
 pub mod Shaft
 pub mod Event
 pub mod Phase
+pub mod Lasting
+pub mod Lawful
+pub mod Counter

@@ -1,5 +1,5 @@
--- What the events of one axis tell, from any four words: a new phase begins with every setup, erase and restore that is accepted, and within a
--- phase the configuration stays. Events have the newest first.
+-- What the events of one axis tell, from any four words: document 01, "One row, four words", "A port sample" and "Calls that name one axis". A
+-- phase begins with every setup, erase and restore that is accepted, and within a phase the configuration stays. Events have the newest first.
 use Prim.Native.Nat.{ℕ}
 use mathlib.Core.Bool.{Bool, true, false, cond}
 use mathlib.Core.List.{List, [], _∷_}
@@ -11,14 +11,17 @@ use Rattle.reckon.specs.declared.Reckoned.the-variants.{Number, Refused as Unre
 use Rattle.axis.specs.Config.{goodConfig}
 use Rattle.axis.specs.Row.{axisOf, rowOf, emptyRow, fresh, freshAt}
 use Rattle.axis.specs.Sound.{statusOf}
+use Rattle.axis.specs.declared.row.Axis.{Axis}
 use Rattle.axis.specs.declared.row.Row.{Row}
 use Rattle.axis.specs.declared.sound.Status.{Status}
 use Rattle.axis.specs.declared.sound.Status.the-variants.{Empty, Sampled, Counter, Broken}
 use Rattle.motion.specs.Lines.{rawOf}
+use Rattle.motion.specs.declared.step.SteppedRow.{SteppedRow}
 use Rattle.record.specs.Record.{readAs}
 use Rattle.record.specs.declared.answer.Read.{Read}
 use Rattle.record.specs.declared.answer.Read.the-variants.{Accepted, Refused as Unread}
 use Rattle.calls.specs.Change.{readAxis}
+use Rattle.calls.specs.Calls.{configOf}
 use Rattle.history.specs.Acts.{Act, sampled}
 use Rattle.history.specs.Acts.{preset as placed, arm as armed, acknowledge as acknowledged}
 use Rattle.history.specs.Entries.{doubleAt}
@@ -64,7 +67,7 @@ restoredTo p (Unread e) = p
 -- The phase after a call; one that is refused, or only looks, changes nothing.
 unfoldable pub afterCall : Phase → Op → Phase
 afterCall p (setup kind depth width turn) =
-    cond (goodConfig kind depth width turn) (begun (rowOf (fresh (record { kind = kind; depth = depth; width = width; turn = turn })))) p
+    cond (goodConfig kind depth width turn) (begun (rowOf (fresh (configOf kind depth width turn)))) p
 afterCall p erase = begun emptyRow
 afterCall p (preset z) = cond (inRange z) (bySort (acted p (placed z)) (moved p z) (statusOf (p .start)) p) p
 afterCall p arm = bySort (acted p armed) p (statusOf (p .start)) p
@@ -85,6 +88,14 @@ unfoldable pub phaseOf : Row → List Event → Phase
 phaseOf r [] = begun r
 phaseOf r (e ∷ h) = afterEvent (phaseOf r h) e
 
+-- The axis that the phase after events began with.
+abbrev pub startAxis : Row → List Event → Axis
+startAxis r h = axisOf (phaseOf r h .start)
+
+-- What has happened to it since.
+abbrev pub actsSince : Row → List Event → List Act
+actsSince r h = phaseOf r h .acts
+
 -- The row that a phase tells, by what it began with.
 unfoldable pub toldBy : Status → Phase → Row
 toldBy Sampled p = rowOf (told (axisOf (p .start)) (p .acts))
@@ -101,6 +112,10 @@ pub record Marks : Type 0 where
   pub double : Bool
   pub index : Bool
   pub broken : Bool
+
+-- The bits of the answer of a sample on a row.
+abbrev pub marksOf : SteppedRow → Marks
+marksOf s = record { double = s .double; index = s .index; broken = s .broken }
 
 -- The bits that a phase tells of a sample: E and the index rise of a sampled axis, broken for a broken row, none for any other.
 unfoldable pub markedBy : Status → Phase → ℕ → Marks

@@ -9,6 +9,7 @@ use Rattle.integers.proofs.Balance.{Tested, yes, no, test}
 use Rattle.motion.specs.Filter.{filterLine}
 use Rattle.motion.specs.declared.lines.Line.{Line}
 
+-- A level and itself, and a level and the other.
 beq-same : (b : Bool) → Bool·beq b b ≡ true
 beq-same true = refl
 beq-same false = refl

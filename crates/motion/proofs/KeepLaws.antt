@@ -1,22 +1,20 @@
 -- A sample keeps what a sampled axis is: document 01, "One row, four words" and "A port sample".
 use Prim.Native.Nat.{ℕ, _^_, _<_}
-use mathlib.Core.Path.{_≡_, refl, sym, _∙_}
+use mathlib.Core.Path.{_≡_, refl, sym}
 use mathlib.Core.Bool.{Bool, true, false, cond, not, _&&_, _||_, true≢false}
-use native.Mathlib.Omega.{arith}
 use lib.Dec.{ltb, lit<}
 use borrow.Author.Tests.{ltb-true}
-use Rattle.position.specs.Position.{positionOf}
 use Rattle.axis.specs.declared.row.Axis.{Axis}
 use Rattle.axis.specs.Sound.{SampledAxis}
-use Rattle.motion.specs.Lines.{Wire, A, B, Z, placeOf, levelOf, line}
+use Rattle.motion.specs.Lines.{A, B, Z, placeOf, levelOf, line}
 use Rattle.motion.specs.Filter.{filtered, Short}
-use Rattle.motion.specs.Decode.{isE, moveTo}
-use Rattle.motion.specs.Count.{countedWord}
+use Rattle.motion.specs.Decode.{moveTo}
+use Rattle.motion.specs.Count.{Reach}
 use Rattle.motion.specs.Index.{rises, offTurn}
 use Rattle.motion.specs.Step.{primedBy, settle, advanced, outcome, stepAxis}
 use Rattle.motion.specs.declared.lines.Raw.{Raw}
 use Rattle.motion.proofs.FilterLaws.{filter-short}
-use Rattle.motion.proofs.CountLaws.{Reach, count-reach, doubles-below}
+use Rattle.motion.proofs.CountLaws.{count-reach, doubles-below}
 use Rattle.motion.proofs.PaceLaws.{direction-below, age-below, period-below, resting}
 
 -- The runs of a sampled axis are short.

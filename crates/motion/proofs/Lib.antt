@@ -1,6 +1,7 @@
 pub mod Check
 pub mod FilterLaws
 pub mod DecodeLaws
+pub mod TableLaws
 pub mod CountLaws
 pub mod PaceLaws
 pub mod IndexLaws

@@ -1,16 +1,16 @@
 -- The laws of direction, age and period: document 01, "A port sample", Age and period.
 use Prim.Native.Nat.{ℕ, _+_, _-_, _^_, _<_, _≤_, min}
-use mathlib.Core.Path.{_≡_, refl, sym, _∙_}
+use mathlib.Core.Path.{_≡_, refl}
 use mathlib.Core.Bool.{Bool, true, false, cond, _&&_, and-false}
 use native.Mathlib.Omega.{arith}
 use borrow.Author.Tests.{ltb-true, lt-ltb, eq-eqb, ne-eqb}
-use lib.Dec.{eqb, ltb, lit<, lit≤}
+use lib.Dec.{ltb, lit<, lit≤}
 use Rattle.integers.proofs.Balance.{Tested, yes, no, test}
 use Rattle.motion.specs.Pace.{older, pacedDirection, pacedAge, stepPeriod, pacedPeriod}
 use Rattle.motion.specs.declared.decode.Move.{Move}
 use Rattle.motion.specs.declared.decode.Move.the-variants.{Still, Forward, Back, Double}
 
--- ---- what a row can hold
+-- ---- what a row can hold: direction, age, period, and no period where there is no direction
 
 pub direction-below : (m : Move) (d : ℕ) → d < 3 → pacedDirection m d < 3
 unfolding pacedDirection
@@ -28,7 +28,7 @@ age-below Double age = lit< tt
 
 step-below : (side direction age : ℕ) → stepPeriod side direction age ≤ 2 ^ 32 - 2
 unfolding stepPeriod
-step-below side direction age = go (test (ltb (older age) (2 ^ 32 - 1))) (eqb direction side)
+step-below side direction age = go (test (ltb (older age) (2 ^ 32 - 1))) _
   where
     go : Tested (ltb (older age) (2 ^ 32 - 1)) → (b : Bool) → cond (ltb (older age) (2 ^ 32 - 1) && b) (older age) 0 ≤ 2 ^ 32 - 2
     go (yes e) true = rw e (omega (arith, ltb-true))

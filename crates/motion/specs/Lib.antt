@@ -5,3 +5,4 @@ pub mod Count
 pub mod Pace
 pub mod Index
 pub mod Step
+pub mod After

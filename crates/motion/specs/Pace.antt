@@ -4,6 +4,7 @@ use mathlib.Core.Bool.{cond, _&&_}
 use lib.Dec.{eqb, ltb}
 use Rattle.motion.specs.declared.decode.Move.{Move}
 use Rattle.motion.specs.declared.decode.Move.the-variants.{Still, Forward, Back, Double}
+use Rattle.motion.specs.declared.pace.Pace.{Pace}
 
 -- The age one sample on, at most 2 ^ 32 - 1.
 unfoldable pub older : ℕ → ℕ
@@ -33,3 +34,11 @@ pacedPeriod Still direction age period = period
 pacedPeriod Forward direction age period = stepPeriod 1 direction age
 pacedPeriod Back direction age period = stepPeriod 2 direction age
 pacedPeriod Double direction age period = 0
+
+-- Direction, age and period after an entry.
+abbrev pub pacedBy : Move → Pace → Pace
+pacedBy m p = record {
+  direction = pacedDirection m (p .direction);
+  age = pacedAge m (p .age);
+  period = pacedPeriod m (p .direction) (p .age) (p .period);
+}

@@ -1,6 +1,5 @@
 -- A sample on an axis and on a row: document 01, "A port sample".
 use Prim.Native.Nat.{ℕ, _^_}
-use mathlib.Core.Path.{_≡_}
 use mathlib.Core.Bool.{Bool, true, false, cond, not, _&&_, _||_}
 use mathlib.Core.List.{[], _∷_}
 use Rattle.position.specs.Position.{positionOf}

@@ -1,6 +1,6 @@
 // Position, RANGE and doubles after an entry.
 ghost use mathlib.Core.Path.{_≡_};
-ghost use Rattle.motion.specs.Count.{countedWord, countedRange, countedDoubles};
+ghost use Rattle.motion.specs.Count.{countedBy, countedDoubles};
 use crate::decode::Move;
 use crate::decode::is_double;
 
@@ -20,7 +20,7 @@ pub struct Counted {
 
 // Word 0 and RANGE after an entry.
 pub fn count(m: Move, word: u64, range: bool) -> Counted
-    ensures { λ r. ⌜ (r .word ≡ countedWord m word) × (r .range ≡ countedRange m word range) ⌝ }
+    ensures { λ r. ⌜ r ≡ countedBy m word range ⌝ }
 {
     match m {
         Move::Still => Counted { word, range },

@@ -38,7 +38,8 @@ fn off_turn(turn: u32, word: u64) -> bool
     if turn == 0 {
         return false;
     }
-    distance(word) % (turn as u64) != 0
+    let far = distance(word);
+    far % (turn as u64) != 0
 }
 
 // INDEX after a sample; `checks` where the position is to be looked at.

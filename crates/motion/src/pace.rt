@@ -1,6 +1,6 @@
 // Direction, age and period after an entry.
 ghost use mathlib.Core.Path.{_≡_};
-ghost use Rattle.motion.specs.Pace.{older, pacedDirection, pacedAge, stepPeriod, pacedPeriod};
+ghost use Rattle.motion.specs.Pace.{older, stepPeriod, pacedBy};
 use crate::decode::Move;
 
 // The directions.
@@ -40,9 +40,7 @@ fn step_period(side: u8, direction: u8, age: u32) -> u32
 
 // Direction, age and period after an entry.
 pub fn paced(m: Move, p: Pace) -> Pace
-    ensures { λ r. ⌜ (r .direction ≡ pacedDirection m (p .direction))
-        × (r .age ≡ pacedAge m (p .age))
-        × (r .period ≡ pacedPeriod m (p .direction) (p .age) (p .period)) ⌝ }
+    ensures { λ r. ⌜ r ≡ pacedBy m p ⌝ }
 {
     match m {
         Move::Still => Pace {

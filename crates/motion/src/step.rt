@@ -59,7 +59,7 @@ fn prime(x: Axis, s: Raw) -> Stepped
     }
 }
 
-// A primed axis whose lines become n, with the entry and the index rise that this is.
+// A primed axis whose lines become n, where m is the entry and rose says whether Z rose.
 fn settled(x: Axis, n: Lines, m: Move, rose: bool) -> Axis
     requires { ⌜ (m ≡ moveTo x (three n)) × (rose ≡ rises x (three n)) ⌝ }
     ensures { λ r. ⌜ r ≡ settle x (three n) ⌝ }

@@ -1,6 +1,6 @@
 -- How near a speed is to what it stands for.
 use mathlib.Core.Path.{_≡_, refl, sym, ap, _∙_}
-use mathlib.Core.Bool.{Bool, true, false, cond, _&&_}
+use mathlib.Core.Bool.{Bool, true, false, cond, _&&_, and-eq-true-iff}
 use mathlib.Core.Logic.{_⊎_, ⊎-elim}
 use Prim.Native.Nat.{ℕ, zero, suc, _+_, _*_, _-_, _^_, _≤_, _<_}
 use native.Mathlib.Nat.{mul-le-mul, mul-le-mul-right}
@@ -16,7 +16,6 @@ use Rattle.reckon.specs.declared.Reckoned.the-variants.{Number, Refused}
 use Rattle.reckon.specs.Rounding.{rounded}
 use Rattle.reckon.specs.Speed.{goodCount, goodSamples, goodRate, speedByCount, countedFrom, angleBound}
 use Rattle.reckon.proofs.RoundingLaws.{twice, rounds}
-use Rattle.reckon.proofs.WideningLaws.{and-both}
 
 -- ---- the refusal VALUE, test by test
 
@@ -39,10 +38,10 @@ good-speed D T F h k l = rw (h, k, l)
 -- ---- the limits, and the size of 1000 D F
 
 pub samples-are : (T : ℕ) → goodSamples T ≡ true → (0 < T) × (T < 2 ^ 32)
-samples-are T h = let a = and-both (leb 1 T) (ltb T (2 ^ 32)) h in (leb-true 1 T (a .0), ltb-true T (2 ^ 32) (a .1))
+samples-are T h = let a = and-eq-true-iff (leb 1 T) (ltb T (2 ^ 32)) .0 h in (leb-true 1 T (a .0), ltb-true T (2 ^ 32) (a .1))
 
 pub rate-is : (F : ℕ) → goodRate F ≡ true → (1 ≤ F) × (F ≤ 1000000)
-rate-is F h = let a = and-both (leb 1 F) (leb F 1000000) h in (leb-true 1 F (a .0), leb-true F 1000000 (a .1))
+rate-is F h = let a = and-eq-true-iff (leb 1 F) (leb F 1000000) .0 h in (leb-true 1 F (a .0), leb-true F 1000000 (a .1))
 
 pub product-small : (D : ℤ) (F : ℕ) → goodCount D ≡ true → F ≤ 1000000 → natAbs (D *ℤ pos (1000 * F)) < 2 ^ 61
 unfolding goodCount
@@ -110,8 +109,8 @@ module _ (D : ℤ) (T F : ℕ) (v : ℤ) (h : speedByCount D T F ≡ Number v) w
       go : Tested (goodCount D && goodSamples T && goodRate F) → Given
       go (no e) = let k = rw e at h in let q : _≡_ {A = ℕ} 0 1 = cc in absurd (omega arith)
       go (yes e) =
-          let a = and-both (goodCount D && goodSamples T) (goodRate F) e in
-          let b = and-both (goodCount D) (goodSamples T) (a .0) in
+          let a = and-eq-true-iff (goodCount D && goodSamples T) (goodRate F) .0 e in
+          let b = and-eq-true-iff (goodCount D) (goodSamples T) .0 (a .0) in
           record { count = b .0; samples = b .1; rate = a .1; is = cc (rw e at h) }
 
   -- HEADLINE: the first bound: twice |v T - 1000 D F| is at most T.

@@ -1,6 +1,6 @@
 -- Widening by the word that holds a position, and when each refusal comes.
 use mathlib.Core.Path.{_≡_, refl, sym, ap, _∙_}
-use mathlib.Core.Bool.{Bool, true, false, cond, _&&_, true≢false}
+use mathlib.Core.Bool.{Bool, true, false, cond, _&&_, and-eq-true-iff}
 use mathlib.Core.Logic.{_⊎_, inl, inr, ⊎-elim, _↔_}
 use Prim.Native.Nat.{ℕ, zero, suc, _+_, _*_, _-_, _/_, _%_, _^_, _≤_, _<_}
 use native.Mathlib.Nat.{mod-lt, mod-eq-of-lt, div-add-mod', add-mul-mod-self-right}
@@ -21,12 +21,8 @@ use Rattle.reckon.specs.Widening.{goodWidth, goodReading, within, neares
 
 -- ---- what the three tests of a good reading say
 
-pub and-both : (a b : Bool) → (a && b) ≡ true → (a ≡ true) × (b ≡ true)
-and-both true b h = (refl, h)
-and-both false b h = absurd (true≢false (sym h))
-
 pub width-is : (w : ℕ) → goodWidth w ≡ true → (2 ≤ w) × (w ≤ 32)
-width-is w h = let a = and-both (leb 2 w) (leb w 32) h in (leb-true 2 w (a .0), leb-true w 32 (a .1))
+width-is w h = let a = and-eq-true-iff (leb 2 w) (leb w 32) .0 h in (leb-true 2 w (a .0), leb-true w 32 (a .1))
 
 pub record Good (w : ℕ) (W : ℤ) (r : ℕ) : Type 0 where
   pub low : 2 ≤ w
@@ -37,8 +33,8 @@ pub record Good (w : ℕ) (W : ℤ) (r : ℕ) : Type 0 where
 pub good-is : (w : ℕ) (W : ℤ) (r : ℕ) → goodReading w W r ≡ true → Good w W r
 unfolding goodReading
 good-is w W r h =
-    let a = and-both (goodWidth w && inRange W) (ltb r (2 ^ w)) h in
-    let b = and-both (goodWidth w) (inRange W) (a .0) in
+    let a = and-eq-true-iff (goodWidth w && inRange W) (ltb r (2 ^ w)) .0 h in
+    let b = and-eq-true-iff (goodWidth w) (inRange W) .0 (a .0) in
     let c = width-is w (b .0) in
     record { low = c .0; high = c .1; ok = b .1; small = ltb-true r (2 ^ w) (a .1) }
 

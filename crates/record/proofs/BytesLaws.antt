@@ -12,14 +12,14 @@ use lib.Dec.{eqb}
 use lib.ListN.{length, take, drop, getD, length-append, length-drop, length-take}
 use lib.Seq.{take-suc, getD-drop}
 use Rattle.integers.proofs.Balance.{Tested, yes, no, test}
-use Rattle.record.specs.Bytes.{Bytes, numberFrom, numberIn, numberAt, bytesOf, starts}
+use Rattle.record.specs.Bytes.{AllBytes, numberFrom, numberIn, numberAt, bytesOf, starts}
 
 -- ---- parts of a list of bytes
 
-pub bytes-drop : (n : ℕ) (s : List ℕ) → Bytes s → Bytes (drop n s)
+pub bytes-drop : (n : ℕ) (s : List ℕ) → AllBytes s → AllBytes (drop n s)
 bytes-drop n s b i = rw getD-drop (b (n + i))
 
-pub bytes-take : (n : ℕ) (s : List ℕ) → Bytes s → Bytes (take n s)
+pub bytes-take : (n : ℕ) (s : List ℕ) → AllBytes s → AllBytes (take n s)
 bytes-take zero s b i = omega arith
 bytes-take (suc n) [] b i = omega arith
 bytes-take (suc n) (x ∷ xs) b zero = b 0
@@ -39,7 +39,7 @@ number-next s at i h =
 
 -- ---- n bytes hold a number below 256 ^ n
 
-from-below : (v : ℕ) (xs : List ℕ) → Bytes xs → numberFrom v xs < suc v * 256 ^ length xs
+from-below : (v : ℕ) (xs : List ℕ) → AllBytes xs → numberFrom v xs < suc v * 256 ^ length xs
 unfolding numberFrom
 from-below v [] b = omega arith
 from-below v (x ∷ xs) b =
@@ -48,39 +48,12 @@ from-below v (x ∷ xs) b =
     let k = mul-le-mul-right (256 ^ length xs) l in
     subst (λ (m : ℕ). numberFrom (v * 256 + x) xs < m) (mul-assoc (suc v) 256 (256 ^ length xs) ∙ ap (λ (m : ℕ). suc v * m) (sym (pow-succ' 256 (length xs)))) (lt-of-lt-of-le h k)
 
-pub number-below : (s : List ℕ) (at n : ℕ) → Bytes s → numberAt s at n < 256 ^ n
+pub number-below : (s : List ℕ) (at n : ℕ) → AllBytes s → numberAt s at n < 256 ^ n
 number-below s at n b =
     let xs = take n (drop at s) in
     let h = from-below 0 xs (bytes-take n (drop at s) (bytes-drop at s b)) in
     let l : length xs ≤ n = simp length-take (omega arith) in
     lt-of-lt-of-le (omega (arith, h)) (pow-le-pow-right {n = 256} (omega arith) {j = n} l)
-
--- ---- there and back
-
-pub length-bytesOf : (n v : ℕ) → length (bytesOf n v) ≡ n
-unfolding bytesOf
-length-bytesOf zero v = refl
-length-bytesOf (suc n) v = simp length-append (omega (arith, length-bytesOf n (v / 256)))
-
--- HEADLINE: a number below 256 ^ n is read back from its n bytes.
-pub number-back : (n v : ℕ) → v < 256 ^ n → numberIn (bytesOf n v) ≡ v
-unfolding bytesOf numberFrom
-number-back zero v h = omega arith
-number-back (suc n) v h =
-    number-snoc 0 (bytesOf n (v / 256)) (v % 256) ∙ ap (λ (k : ℕ). k * 256 + v % 256) (number-back n (v / 256) (omega (arith, div-add-mod' v 256))) ∙ div-add-mod' v 256
-
-bytes-from : (n v : ℕ) (xs : List ℕ) → Bytes xs → bytesOf (n + length xs) (numberFrom v xs) ≡ bytesOf n v ++ xs
-unfolding numberFrom bytesOf
-bytes-from n v [] b = simp (add-zero, append-nil)
-bytes-from n v (x ∷ xs) b =
-    ap (λ (m : ℕ). bytesOf m (numberFrom (v * 256 + x) xs)) (add-suc n (length xs) ∙ sym (suc-add n (length xs)))
-    ∙ bytes-from (suc n) (v * 256 + x) xs (λ i. b (suc i))
-    ∙ rw (digits-div v (b 0), digits-mod v (b 0)) (append-assoc (bytesOf n v) (x ∷ []) xs)
-
--- HEADLINE: bytes that were read as a number are the bytes of that number.
-pub bytes-back : (n : ℕ) (xs : List ℕ) → Bytes xs → length xs ≡ n → bytesOf n (numberIn xs) ≡ xs
-unfolding bytesOf
-bytes-back n xs b e = rw (← e) (ap (λ (m : ℕ). bytesOf m (numberIn xs)) (sym (zero-add (length xs))) ∙ bytes-from 0 0 xs b)
 
 -- ---- beginnings
 
@@ -117,3 +90,30 @@ starts-is (x ∷ xs) (y ∷ ys) h = go (test (eqb x y)) (starts-is xs ys)
     go : Tested (eqb x y) → (starts xs ys ≡ true → ys ≡ xs ++ drop (length xs) ys) → y ∷ ys ≡ x ∷ (xs ++ drop (length xs) ys)
     go (yes e) f = rw (← (eqb-true x y e)) (ap (λ (r : List ℕ). x ∷ r) (f (rw e at h)))
     go (no e) f = let k = rw e at h in let z : _≡_ {A = ℕ} 0 1 = cc in absurd (omega arith)
+
+-- ---- there and back
+
+pub length-bytesOf : (n v : ℕ) → length (bytesOf n v) ≡ n
+unfolding bytesOf
+length-bytesOf zero v = refl
+length-bytesOf (suc n) v = simp length-append (omega (arith, length-bytesOf n (v / 256)))
+
+-- HEADLINE: a number below 256 ^ n is read back from its n bytes.
+pub number-back : (n v : ℕ) → v < 256 ^ n → numberIn (bytesOf n v) ≡ v
+unfolding bytesOf numberFrom
+number-back zero v h = omega arith
+number-back (suc n) v h =
+    number-snoc 0 (bytesOf n (v / 256)) (v % 256) ∙ ap (λ (k : ℕ). k * 256 + v % 256) (number-back n (v / 256) (omega (arith, div-add-mod' v 256))) ∙ div-add-mod' v 256
+
+bytes-from : (n v : ℕ) (xs : List ℕ) → AllBytes xs → bytesOf (n + length xs) (numberFrom v xs) ≡ bytesOf n v ++ xs
+unfolding numberFrom bytesOf
+bytes-from n v [] b = simp (add-zero, append-nil)
+bytes-from n v (x ∷ xs) b =
+    ap (λ (m : ℕ). bytesOf m (numberFrom (v * 256 + x) xs)) (add-suc n (length xs) ∙ sym (suc-add n (length xs)))
+    ∙ bytes-from (suc n) (v * 256 + x) xs (λ i. b (suc i))
+    ∙ rw (digits-div v (b 0), digits-mod v (b 0)) (append-assoc (bytesOf n v) (x ∷ []) xs)
+
+-- HEADLINE: bytes that were read as a number are the bytes of that number.
+pub bytes-back : (n : ℕ) (xs : List ℕ) → AllBytes xs → length xs ≡ n → bytesOf n (numberIn xs) ≡ xs
+unfolding bytesOf
+bytes-back n xs b e = rw (← e) (ap (λ (m : ℕ). bytesOf m (numberIn xs)) (sym (zero-add (length xs))) ∙ bytes-from 0 0 xs b)

@@ -15,13 +15,10 @@ use Rattle.axis.specs.declared.config.Config.{Config}
 use Rattle.axis.specs.Kind.{X1, X2, X4, sampledKind, counterKind}
 use Rattle.axis.specs.Config.{sampledConfig, counterConfig, goodConfig}
 use Rattle.record.specs.declared.answer.Saved.{Saved}
+use Rattle.axis.proofs.TestLaws.{both as and-true}
 use Rattle.record.specs.Record.{knownKind, within}
 
--- ---- two tests at once
-
-pub and-true : (a b : Bool) → (a && b) ≡ true → (a ≡ true) × (b ≡ true)
-and-true true b h = (refl, h)
-and-true false b h = absurd (subst T (sym h) tt)
+-- ---- either of two tests
 
 or-true : (a b : Bool) → (a || b) ≡ true → (a ≡ true) ⊎ (b ≡ true)
 or-true true b h = inl refl

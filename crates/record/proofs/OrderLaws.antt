@@ -108,10 +108,6 @@ judges s (bad-rest n k r e) = in-order s ∙ rw (one-layout s n, n, k, r) (sym e
 judges s (bad-value n k r w e) = in-order s ∙ rw (one-layout s n, n, k, r, w) (sym e)
 judges s (all-good n k r w e) = in-order s ∙ rw (one-layout s n, n, k, r, w) (sym e)
 
--- HEADLINE: a slice is answered by a reason, or accepted, exactly when the line of the first failing check says so.
-pub exactly : (s : List ℕ) (r : Read) → (readAs s ≡ r → Judged s r) × (Judged s r → readAs s ≡ r)
-exactly s r = (λ e. subst (Judged s) e (judged s), judges s)
-
 -- What an accepted slice passed, and what it says.
 pub record Passed (s : List ℕ) (said : Saved) : Type 0 where
   pub nine : nineStand s ≡ true
@@ -123,7 +119,7 @@ never : {r : Refusal} {said : Saved} → Accepted said ≡ Refused r → ⊥
 never e = let z : _≡_ {A = ℕ} 0 1 = cc in omega arith
 
 pub passed : (s : List ℕ) (said : Saved) → readAs s ≡ Accepted said → Passed s said
-passed s said h = go (exactly s (Accepted said) .0 h)
+passed s said h = go (subst (Judged s) h (judged s))
   where
     go : Judged s (Accepted said) → Passed s said
     go (other-layout l e) = absurd (never e)
@@ -132,3 +128,7 @@ passed s said h = go (exactly s (Accepted said) .0 h)
     go (bad-rest n k r e) = absurd (never e)
     go (bad-value n k r w e) = absurd (never e)
     go (all-good n k r w e) = let q : said ≡ saidIn s = cc in record { nine = n; rest = r; limits = ap within q ∙ w; says = q }
+
+-- HEADLINE: a slice is answered by a reason, or accepted, exactly when the line of the first failing check says so.
+pub exactly : (s : List ℕ) (r : Read) → (readAs s ≡ r → Judged s r) × (Judged s r → readAs s ≡ r)
+exactly s r = (λ e. subst (Judged s) e (judged s), judges s)

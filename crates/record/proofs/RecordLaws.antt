@@ -1,12 +1,16 @@
 -- The saved record's promises: document 01, "The saved record".
 use mathlib.Core.Path.{_≡_, refl, sym, ap, _∙_, subst}
-use mathlib.Core.Bool.{true, not, cond}
+use mathlib.Core.Bool.{true, not, cond, _&&_}
 use mathlib.Core.List.{List, [], _∷_, _++_}
-use Prim.Native.Nat.{ℕ, _^_, _<_}
+use Prim.Native.Nat.{ℕ, _^_, _≤_, _<_}
+use native.Mathlib.Nat.{zero-add}
 use native.Mathlib.Omega.{arith}
 use borrow.Author.Tests.{le-leb}
+use lib.Dec.{leb}
 use lib.IntN.{negsuc}
 use lib.ListN.{length, take, drop}
+use lib.Seq.{sets, sets-eq}
+use Rattle.refusal.proofs.OutcomeLaws.{one}
 use Rattle.integers.proofs.Balance.{Tested as Told, yes, no, test}
 use Rattle.refusal.specs.declared.Refusal.{Refusal}
 use Rattle.refusal.specs.declared.Refusal.the-variants.{Room, Layout}
@@ -20,44 +24,39 @@ use Rattle.record.specs.declared.answer.Tested.{Tested}
 use Rattle.record.specs.declared.answer.Tested.the-variants.{Accepted as Passes, Refused as Fails}
 use Rattle.record.specs.declared.answer.Written.{Written}
 use Rattle.record.specs.declared.answer.Written.the-variants.{Refused as Unwritten}
-use Rattle.record.specs.Bytes.{Bytes, numberIn, numberFrom, bytesOf, starts}
-use Rattle.record.specs.Answer.{testedOf}
-use Rattle.record.specs.Record.{within, readAs, testedAs, opening, fieldBytes, headBytes, counterBytes, sampledBytes, recordOf, savedAs, LAYOUT}
+use Rattle.record.specs.Bytes.{AllBytes, numberIn, numberFrom, bytesOf, starts}
+use Rattle.record.specs.Answer.{readNumber, readFound, testedOf, testedNumber, testedFound}
+use Rattle.record.specs.Record.{within, readAs, testedAs, opening, fieldBytes, headBytes, counterBytes, sampledBytes, recordOf, savedAs, written, Saves, Shaped, LAYOUT}
 use Rattle.record.specs.Order.{otherLayout, layoutIn, Judged, other-layout, bad-nine, bad-kind, bad-rest, bad-value, all-good}
 use Rattle.record.proofs.BytesLaws.{number-back, starts-is}
 use Rattle.record.proofs.OrderLaws.{exactly, passed}
 use Rattle.record.proofs.RoundTrip.{written-read, read-written}
-use Rattle.record.proofs.WriterLaws.{Saves, counter-long, sampled-long, counter-record, sampled-record}
+use Rattle.record.proofs.WriterLaws.{counter-long, sampled-long, counter-record, sampled-record}
 
 -- HEADLINE: what is written within its limits is read back as it was.
 pub read-back : (s : Saved) → within s ≡ true → readAs (recordOf s) ≡ Accepted s
 read-back s w = written-read s w
 
 -- HEADLINE: a slice of bytes that is accepted is the one record of what it says.
-pub one-encoding : (s : List ℕ) (said : Saved) → Bytes s → readAs s ≡ Accepted said → recordOf said ≡ s
+pub one-encoding : (s : List ℕ) (said : Saved) → AllBytes s → readAs s ≡ Accepted said → recordOf said ≡ s
 one-encoding s said b h = read-written s b said h
 
 -- HEADLINE: two slices of bytes that are accepted and say the same are the same.
-pub one-slice : (s t : List ℕ) (said : Saved) → Bytes s → Bytes t → readAs s ≡ Accepted said → readAs t ≡ Accepted said → s ≡ t
+pub one-slice : (s t : List ℕ) (said : Saved) → AllBytes s → AllBytes t → readAs s ≡ Accepted said → readAs t ≡ Accepted said → s ≡ t
 one-slice s t said b c h k = sym (one-encoding s said b h) ∙ one-encoding t said c k
 
--- The five opening bytes, and 34 or 27 bytes by the kind.
-pub record Shaped (s : List ℕ) (kind : ℕ) : Type 0 where
-  pub opens : take 5 s ≡ opening
-  pub long : length s ≡ cond (counterKind kind) 27 34
-
 -- HEADLINE: every record that is written opens with the five bytes and has 34 or 27.
-pub written-shape : (s : Saved) → Shaped (recordOf s) (s .config .kind)
+pub written-shape : (s : Saved) → Shaped (s .config .kind) (recordOf s)
 unfolding counterBytes sampledBytes headBytes fieldBytes
 written-shape s = go (test (counterKind (s .config .kind)))
   where
-    go : Told (counterKind (s .config .kind)) → Shaped (recordOf s) (s .config .kind)
+    go : Told (counterKind (s .config .kind)) → Shaped (s .config .kind) (recordOf s)
     go (yes k) = record { opens = rw (counter-record s k); long = rw k (counter-long s k) }
     go (no k) = record { opens = rw (sampled-record s k); long = rw k (sampled-long s k) }
 
 -- HEADLINE: every slice of bytes that is accepted opens with the five bytes and has 34 or 27.
-pub accepted-shape : (s : List ℕ) (said : Saved) → Bytes s → readAs s ≡ Accepted said → Shaped s (said .config .kind)
-accepted-shape s said b h = subst (λ (l : List ℕ). Shaped l (said .config .kind)) (one-encoding s said b h) (written-shape said)
+pub accepted-shape : (s : List ℕ) (said : Saved) → AllBytes s → readAs s ≡ Accepted said → Shaped (said .config .kind) s
+accepted-shape s said b h = subst (Shaped (said .config .kind)) (one-encoding s said b h) (written-shape said)
 
 -- HEADLINE: what is accepted is within its limits.
 pub accepted-within : (s : List ℕ) (said : Saved) → readAs s ≡ Accepted said → within said ≡ true
@@ -80,6 +79,14 @@ test-refuses s q = (go (readAs s), λ h. rw h)
     go : (r : Read) → testedOf r ≡ Fails q → r ≡ Refused q
     go (Accepted said) h = let z : _≡_ {A = ℕ} 0 1 = cc in absurd (omega arith)
     go (Refused r) h = cc
+
+-- HEADLINE: the test's numbers are the reader's.
+pub test-numbers : (s : List ℕ) → (testedNumber (testedAs s) ≡ readNumber (readAs s)) × (testedFound (testedAs s) ≡ readFound (readAs s))
+test-numbers s = go (readAs s)
+  where
+    go : (r : Read) → (testedNumber (testedOf r) ≡ readNumber r) × (testedFound (testedOf r) ≡ readFound r)
+    go (Accepted said) = (refl, refl)
+    go (Refused r) = (refl, refl)
 
 -- ---- another layout
 
@@ -110,17 +117,30 @@ layout-found s n h = go (exactly s (Refused (Layout n)) .0 h)
   where
     go : Judged s (Refused (Layout n)) → (otherLayout s ≡ true) × (n ≡ layoutIn s)
     go (other-layout l e) = (l, cc)
-    go (bad-nine l m e) = let z : _≡_ {A = ℕ} 0 1 = cc in absurd (omega arith)
-    go (bad-kind m k e) = let z : _≡_ {A = ℕ} 0 1 = cc in absurd (omega arith)
-    go (bad-rest m k r e) = let z : _≡_ {A = ℕ} 0 1 = cc in absurd (omega arith)
-    go (bad-value m k r w e) = let z : _≡_ {A = ℕ} 0 1 = cc in absurd (omega arith)
-    go (all-good m k r w e) = let z : _≡_ {A = ℕ} 0 1 = cc in absurd (omega arith)
+    go (bad-nine l m e) = absurd (omega (arith, ap readNumber e))
+    go (bad-kind m k e) = absurd (omega (arith, ap readNumber e))
+    go (bad-rest m k r e) = absurd (omega (arith, ap readNumber e))
+    go (bad-value m k r w e) = absurd (omega (arith, ap readNumber e))
+    go (all-good m k r w e) = absurd (omega (arith, ap readNumber e))
+
+-- ---- the buffer of a save
+
+-- HEADLINE: where nothing is refused the record stands at the front, and every byte beyond it is as it was.
+pub saved-front : (b : List ℕ) (s : Saved) → within s ≡ true → length (recordOf s) ≤ length b → written b s ≡ recordOf s ++ drop (length (recordOf s)) b
+unfolding written
+saved-front b s w h = rw (w, le-leb (length (recordOf s)) (length b) h) (sets-eq (recordOf s) b 0 (rw zero-add h) ∙ rw zero-add)
+
+-- HEADLINE: a refused save leaves every byte as it was.
+pub refused-kept : (b : List ℕ) (s : Saved) (r : Refusal) → savedAs (length b) s ≡ Unwritten r → written b s ≡ b
+unfolding savedAs written
+refused-kept b s r h = go (test (within s)) (test (leb (length (recordOf s)) (length b)))
+  where
+    go : Told (within s) → Told (leb (length (recordOf s)) (length b)) → cond (within s && leb (length (recordOf s)) (length b)) (sets b 0 (recordOf s)) b ≡ b
+    go (no w) _ = rw w
+    go (yes w) (no l) = rw (w, l)
+    go (yes w) (yes l) = let e = rw (w, l) at h in let z : _≡_ {A = ℕ} 0 1 = cc in absurd (omega arith)
 
 -- ---- one outcome
-
--- Two outcomes of one definition are equal.
-one : {A : Type 0} {x y z : A} → y ≡ x → z ≡ x → y ≡ z
-one p q = p ∙ sym q
 
 -- HEADLINE: reading a slice has one outcome.
 pub read-one : (s : List ℕ) (q r : Read) → q ≡ readAs s → r ≡ readAs s → q ≡ r

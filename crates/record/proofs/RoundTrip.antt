@@ -16,11 +16,12 @@ use Rattle.axis.specs.Kind.{COUNTER, sampledKind, counterKind}
 use Rattle.axis.specs.declared.config.Config.{Config}
 use Rattle.record.specs.declared.answer.Saved.{Saved}
 use Rattle.record.specs.declared.answer.Read.the-variants.{Accepted}
-use Rattle.record.specs.Bytes.{Bytes, numberAt, bytesOf, starts}
-use Rattle.record.specs.Record.{standsAt, knownKind, within, saying, readAs, opening, fieldBytes, headBytes, counterBytes, sampledBytes, recordOf, KIND, POSITION, DEPTH, WIDTH, TURN, END}
+use Rattle.record.specs.Bytes.{AllBytes, numberAt, bytesOf, starts}
+use Rattle.record.specs.Record.{headAt, standsAt, knownKind, within, saying, readAs, opening, fieldBytes, headBytes, counterBytes, sampledBytes, recordOf, KIND, POSITION, DEPTH, WIDTH, TURN, END}
 use Rattle.record.specs.Order.{nineStand, kindIn, restStands, saidIn, all-good}
 use Rattle.record.proofs.BytesLaws.{bytes-drop, bytes-take, number-below, number-back, bytes-back, starts-is}
-use Rattle.record.proofs.LimitsLaws.{and-true, Sampled, sampled-kind, known-counter, Good, sampled, counter, within-config, within-position}
+use Rattle.axis.proofs.TestLaws.{both as and-true}
+use Rattle.record.proofs.LimitsLaws.{Sampled, sampled-kind, known-counter, Good, sampled, counter, within-config, within-position}
 use Rattle.record.proofs.OrderLaws.{exactly, passed}
 use Rattle.record.proofs.WriterLaws.{counter-record, sampled-record}
 
@@ -106,21 +107,21 @@ step : (s : List ℕ) (k j : ℕ) → k < length s → suc k ≡ j → drop k s 
 step s k j h e = drop-cons s k 0 h ∙ ap (λ (m : ℕ). getD s k 0 ∷ drop m s) e
 
 -- A field that stands at a place is what would be written there.
-stands-is : (s : List ℕ) (at tag n : ℕ) → Bytes s → standsAt s at tag n ≡ true → drop at s ≡ fieldBytes tag n (numberAt s (at + 3) n) ++ drop (at + 3 + n) s
+stands-is : (s : List ℕ) (at tag n : ℕ) → AllBytes s → standsAt s at tag n ≡ true → drop at s ≡ fieldBytes tag n (numberAt s (at + 3) n) ++ drop (at + 3 + n) s
 unfolding fieldBytes
 stands-is s at tag n b h =
-    let a = and-true (leb (at + 3 + n) (length s) && eqb (getD s at 0) tag && eqb (getD s (at + 1) 0) 0) (eqb (getD s (at + 2) 0) n) h in
-    let c = and-true (leb (at + 3 + n) (length s) && eqb (getD s at 0) tag) (eqb (getD s (at + 1) 0) 0) (a .0) in
-    let d = and-true (leb (at + 3 + n) (length s)) (eqb (getD s at 0) tag) (c .0) in
+    let d = and-true (leb (at + 3 + n) (length s)) (headAt s at tag n) h in
+    let a = and-true (eqb (getD s at 0) tag && eqb (getD s (at + 1) 0) 0) (eqb (getD s (at + 2) 0) n) (d .1) in
+    let c = and-true (eqb (getD s at 0) tag) (eqb (getD s (at + 1) 0) 0) (a .0) in
     let long = leb-true (at + 3 + n) (length s) (d .0) in
     let body = take n (drop (at + 3) s) in
     let sized : length body ≡ n = length-take-le n (drop (at + 3) s) (simp length-drop (omega arith)) in
     let rest : drop (at + 3) s ≡ body ++ drop (at + 3 + n) s = sym (take-append-drop n (drop (at + 3) s)) ∙ ap (λ (r : List ℕ). body ++ r) (drop-drop n (at + 3) s) in
     step s at (at + 1) (omega arith) (omega arith)
-    ∙ rw (step s (at + 1) (at + 2) (omega arith) (omega arith), step s (at + 2) (at + 3) (omega arith) (omega arith), eqb-true (getD s at 0) tag (d .1), eqb-true (getD s (at + 1) 0) 0 (c .1), eqb-true (getD s (at + 2) 0) n (a .1), bytes-back n body (bytes-take n (drop (at + 3) s) (bytes-drop (at + 3) s b)) sized)
+    ∙ rw (step s (at + 1) (at + 2) (omega arith) (omega arith), step s (at + 2) (at + 3) (omega arith) (omega arith), eqb-true (getD s at 0) tag (c .0), eqb-true (getD s (at + 1) 0) 0 (c .1), eqb-true (getD s (at + 2) 0) n (a .1), bytes-back n body (bytes-take n (drop (at + 3) s) (bytes-drop (at + 3) s b)) sized)
     (ap (λ (r : List ℕ). tag ∷ 0 ∷ n ∷ r) rest)
 
-module _ (s : List ℕ) (b : Bytes s) where
+module _ (s : List ℕ) (b : AllBytes s) where
   -- The first twenty bytes.
   head-is : nineStand s ≡ true → standsAt s 9 POSITION 8 ≡ true → s ≡ headBytes (kindIn s) (numberAt s 12 8) ++ drop 20 s
   unfolding nineStand headBytes

@@ -45,7 +45,7 @@ abbrev pub writtenNumber : Written → ℕ
 writtenNumber (Bytes n) = 0
 writtenNumber (Unwritten r) = numberOf r
 
--- A save finds no layout, so that this is 0 but for a refusal that carries a number.
+-- The layout number that a save's refusal shows, 0 where it carries none.
 abbrev pub writtenFound : Written → ℕ
 writtenFound (Bytes n) = 0
 writtenFound (Unwritten r) = foundIn r

@@ -6,8 +6,8 @@ use lib.Dec.{eqb}
 use lib.ListN.{take, drop, getD}
 
 -- Every element is a byte.
-abbrev pub Bytes : List ℕ → Type 0
-Bytes s = (i : ℕ) → getD s i 0 < 256
+abbrev pub AllBytes : List ℕ → Type 0
+AllBytes s = (i : ℕ) → getD s i 0 < 256
 
 -- A number with the bytes of a list behind it, each after the ones before.
 unfoldable pub numberFrom : ℕ → List ℕ → ℕ

@@ -1,9 +1,10 @@
 -- The saved record, layout 1: document 01, "The saved record".
+use mathlib.Core.Path.{_≡_}
 use mathlib.Core.Bool.{Bool, cond, _&&_, _||_}
 use mathlib.Core.List.{List, [], _∷_, _++_}
 use Prim.Native.Nat.{ℕ, _+_}
 use lib.Dec.{eqb, leb}
-use lib.ListN.{length, getD}
+use lib.ListN.{length, take, getD}
 use lib.Seq.{sets}
 use mir.Syntax.{w64}
 use mir.Val.{toZ, ofZ}
@@ -52,9 +53,13 @@ opening = 1 ∷ 0 ∷ 2 ∷ 0 ∷ 1 ∷ []
 
 -- ---- reading
 
+-- Whether the three bytes from a place are a tag and a length of n.
+abbrev pub headAt : List ℕ → ℕ → ℕ → ℕ → Bool
+headAt s at tag n = eqb (getD s at 0) tag && eqb (getD s (at + 1) 0) 0 && eqb (getD s (at + 2) 0) n
+
 -- Whether a whole field with a tag and a length of n stands at a place.
 abbrev pub standsAt : List ℕ → ℕ → ℕ → ℕ → Bool
-standsAt s at tag n = leb (at + 3 + n) (length s) && eqb (getD s at 0) tag && eqb (getD s (at + 1) 0) 0 && eqb (getD s (at + 2) 0) n
+standsAt s at tag n = leb (at + 3 + n) (length s) && headAt s at tag n
 
 -- The field at a place: its value, and where the next begins.
 unfoldable pub fieldAt : List ℕ → ℕ → ℕ → ℕ → Field
@@ -69,15 +74,16 @@ onField Bad k = Refused Record
 abbrev pub check : Bool → Refusal → Read → Read
 check t r x = cond t x (Refused r)
 
--- Why a slice without the opening is refused: the number of another layout, or RECORD.
+-- A layout field's answer where the opening is missing: LAYOUT with its number, or RECORD.
 abbrev pub layoutOr : Field → Refusal
 layoutOr (Of n next) = Layout n
 layoutOr Bad = Record
 
+-- Why a slice without the opening is refused.
 unfoldable pub unopened : List ℕ → Refusal
 unopened s = layoutOr (fieldAt s 0 LAYOUT 2)
 
--- The four kinds.
+-- Whether a number is one of the four kinds.
 abbrev pub knownKind : ℕ → Bool
 knownKind k = sampledKind k || counterKind k
 
@@ -85,7 +91,7 @@ knownKind k = sampledKind k || counterKind k
 unfoldable pub within : Saved → Bool
 within s = goodConfig (s .config .kind) (s .config .depth) (s .config .width) (s .config .turn) && inRange (s .position)
 
--- What a configuration and the bits of a position say.
+-- What a configuration and the 64 bits of a position, in two's complement, say.
 abbrev pub saying : Config → ℕ → Saved
 saying c bits = record { config = c; position = toZ w64 bits }
 
@@ -148,13 +154,22 @@ recordOf s =
     (counterBytes (s .config .kind) (ofZ w64 (s .position)) (s .config .width))
     (sampledBytes (s .config .kind) (ofZ w64 (s .position)) (s .config .depth) (s .config .turn))
 
--- What a save answers, by the room that it has.
+-- What a save answers in a buffer of some length: VALUE, then ROOM, or the number of bytes.
 unfoldable pub savedAs : ℕ → Saved → Written
 savedAs room s =
     cond (within s)
     (cond (leb (length (recordOf s)) room) (Bytes (length (recordOf s))) (Unwritten Room))
     (Unwritten Value)
 
--- What a save leaves in the buffer.
+-- What a save leaves in a buffer: the record at the front, or on a refusal all as it was.
 unfoldable pub written : List ℕ → Saved → List ℕ
 written b s = cond (within s && leb (length (recordOf s)) (length b)) (sets b 0 (recordOf s)) b
+
+-- What a save answers and leaves in a buffer.
+abbrev pub Saves : List ℕ → Saved → Written → List ℕ → Type 0
+Saves b s r last = (r ≡ savedAs (length b) s) × (last ≡ written b s)
+
+-- The shape of every record of a kind: the five opening bytes, and 34 bytes, or 27 for a counter.
+pub record Shaped (kind : ℕ) (s : List ℕ) : Type 0 where
+  pub opens : take 5 s ≡ opening
+  pub long : length s ≡ cond (counterKind kind) 27 34

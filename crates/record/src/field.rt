@@ -1,4 +1,4 @@
-// The opening of a record and the shape of one field: tag, two bytes of length, value.
+// The opening of a record, the tags, and one field: tag, two bytes of length, value.
 ghost use mathlib.Core.Path.{_≡_};
 ghost use Prim.Native.Nat.{_+_, _≤_};
 ghost use lib.ListN.{length};
@@ -8,8 +8,10 @@ ghost use Rattle.record.specs.Record.{fieldAt, fieldBytes, opening};
 use crate::bytes::number;
 use crate::bytes::put_number;
 
+// The layout field with the number 1, which every record opens with.
 pub const OPENING: [u8; 5] = *b"\x01\x00\x02\x00\x01";
 
+// The tags.
 pub const LAYOUT: u8 = 0x01;
 
 pub const KIND: u8 = 0x02;
@@ -59,16 +61,12 @@ pub fn read_field(slice: &[u8], at: usize, tag: u8, n: u8) -> Field
     if slice.len() - at < 3 + size {
         return Field::Bad;
     }
-    if slice[at] != tag {
-        return Field::Bad;
+    if (slice[at] == tag) & (slice[at + 1] == 0) & (slice[at + 2] == n) {
+        let next = at + 3 + size;
+        Field::Value(number(slice, at + 3, size), next)
+    } else {
+        Field::Bad
     }
-    if slice[at + 1] != 0 {
-        return Field::Bad;
-    }
-    if slice[at + 2] != n {
-        return Field::Bad;
-    }
-    Field::Value(number(slice, at + 3, size), at + 3 + size)
 }
 
 // The five opening bytes.
@@ -76,10 +74,8 @@ pub fn put_opening(buf: &mut [u8])
     requires { ⌜ 5 ≤ length (now buf) ⌝ }
     ensures { λ _. ⌜ now (buf .exit) ≡ sets (now (buf .entry)) 0 opening ⌝ }
 {
-    let mut i = 0;
-    while i < 5 {
+    for i in 0..5 {
         buf[i] = OPENING[i];
-        i += 1;
     }
 }
 

@@ -96,6 +96,7 @@ fn read_sampled(slice: &[u8], kind: u8, bits: u64, at: usize) -> Read
     )
 }
 
+// Whether a number is one of the four kinds.
 fn is_known(kind: u64) -> bool
     ensures { λ r. ⌜ r ≡ knownKind kind ⌝ }
 {

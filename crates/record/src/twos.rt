@@ -1,8 +1,9 @@
-// An i64 and its 64 bits.
+// A signed number and its 64 bits in two's complement, by steps that never wrap.
 ghost use mathlib.Core.Path.{_≡_};
 ghost use mir.Syntax.{w64};
 ghost use mir.Val.{toZ, ofZ};
 
+// The bits of a number.
 pub fn bits_of(z: i64) -> u64
     ensures { λ r. ⌜ r ≡ ofZ w64 z ⌝ }
 {
@@ -13,6 +14,7 @@ pub fn bits_of(z: i64) -> u64
     }
 }
 
+// The number with these bits.
 pub fn of_bits(bits: u64) -> i64
     ensures { λ r. ⌜ r ≡ toZ w64 bits ⌝ }
 {

@@ -3,7 +3,7 @@ ghost use mathlib.Core.Path.{_≡_};
 ghost use Prim.Native.Nat.{_≤_};
 ghost use lib.ListN.{length};
 ghost use lib.Seq.{sets};
-ghost use Rattle.record.specs.Record.{headBytes, counterBytes, sampledBytes, savedAs, written};
+ghost use Rattle.record.specs.Record.{headBytes, counterBytes, sampledBytes, Saves};
 use crate::answer::Saved;
 use crate::answer::Written;
 use crate::field::DEPTH;
@@ -52,7 +52,7 @@ fn put_sampled(buf: &mut [u8], kind: u64, bits: u64, depth: u64, turn: u64)
 
 // The record at the front of a buffer, or the buffer as it was.
 pub fn save(buf: &mut [u8], saved: Saved) -> Written
-    ensures { λ r. ⌜ (r ≡ savedAs (length (now (buf .entry))) saved) × (now (buf .exit) ≡ written (now (buf .entry)) saved) ⌝ }
+    ensures { λ r. ⌜ Saves (now (buf .entry)) saved r (now (buf .exit)) ⌝ }
 {
     if !is_within(saved) {
         return Written::Refused(Refusal::Value);

@@ -1,24 +1,31 @@
 -- The laws of the calls that name one axis, once for all of them: document 01, "Calls that name one axis".
-use Prim.Native.Nat.{ℕ}
+use Prim.Native.Nat.{ℕ, _<_}
+use native.Mathlib.Omega.{arith}
 use mathlib.Core.Path.{_≡_, refl, sym, ap, _∙_}
 use mathlib.Core.List.{List}
+use lib.IntN.{ℤ}
 use lib.ListN.{length}
 use Rattle.refusal.specs.declared.Refusal.{Refusal}
+use Rattle.axis.specs.Row.{axisOf, rowOf}
 use Rattle.axis.specs.declared.row.Row.{Row}
 use Rattle.reckon.specs.declared.Reckoned.{Reckoned}
-use Rattle.reckon.specs.declared.Reckoned.the-variants.{Refused as Unreckoned}
+use Rattle.reckon.specs.declared.Reckoned.the-variants.{Number, Refused as Unreckoned}
 use Rattle.record.specs.declared.answer.Written.{Written}
 use Rattle.record.specs.declared.answer.Written.the-variants.{Refused as Unwritten}
 use Rattle.calls.specs.Answer.{doneOf}
-use Rattle.calls.specs.Calls.{readingRow, readRow, saveRow, savedIn}
+use Rattle.calls.specs.Calls.{readingRow, storedRow, readRow, saveRow, savedIn}
+use Rattle.calls.specs.Change.{readAxis}
 use Rattle.calls.specs.declared.answer.Changed.{Changed}
 use Rattle.calls.specs.declared.answer.Changed.the-variants.{To, Kept}
 use Rattle.calls.specs.declared.answer.Done.{Done}
 use Rattle.calls.specs.declared.answer.Done.the-variants.{Yes, Refused as Undone}
+use Rattle.table.specs.Table.{axesIn, rowAt, setRow}
 use Rattle.table.specs.Located.{located, onFound}
-use Rattle.table.specs.Call.{ruled, tableAfter, Commits, Makes, Reads, Saves}
+use Rattle.table.specs.Call.{ruled, tableAfter, Spares, Commits, Makes, readIn, Reads, Saves}
 use Rattle.table.specs.declared.rows.Located.{Located}
 use Rattle.table.specs.declared.rows.Located.the-variants.{At, Refused}
+use Rattle.table.proofs.TableLaws.{length-setRow, word-other, row-other, row-same}
+use Rattle.table.proofs.LocatedLaws.{found, found-at, found-fits}
 
 -- ---- the ways out of a call
 
@@ -52,3 +59,75 @@ module _ (t : List ℕ) (k : ℕ) (b : List ℕ) where
   -- A save of one that is.
   pub found-saves : (r : Row) {d : List ℕ} {a : Written} → located t k ≡ At r → a ≡ saveRow (length b) r → d ≡ savedIn b r → Saves t k b d a
   found-saves r q p e = record { answer = p ∙ rw q; buffer = e ∙ rw q }
+
+-- ---- only the named row changes
+
+spares : (t : List ℕ) (k : ℕ) (c : Changed) → Spares t k (tableAfter t k c)
+unfolding tableAfter
+spares t k (Kept e) = record { size = refl; words = λ i h. refl; rows = λ j h. refl }
+spares t k (To r) = record { size = length-setRow t k r; words = λ i h. word-other t k i r h; rows = λ j h. row-other t k j r h }
+
+-- The named row after a call that made another, which was there to be replaced.
+pub replaced : (rule : Row → Changed) (t : List ℕ) (k : ℕ) (r : Row) → ruled rule t k ≡ To r →
+    (k < axesIn (length t)) × (rule (rowAt t k) ≡ To r) × (rowAt (tableAfter t k (To r)) k ≡ r)
+unfolding tableAfter
+replaced rule t k r = go (located t k) refl
+  where
+    go : (l : Located) → located t k ≡ l → onFound Kept rule l ≡ To r → (k < axesIn (length t)) × (rule (rowAt t k) ≡ To r) × (rowAt (setRow t k r) k ≡ r)
+    go (Refused e) q p = absurd (let z : _≡_ {A = ℕ} 0 1 = cc in omega arith)
+    go (At s) q p =
+        let f = found t k s q in
+        (f .0, rw (f .1) p, row-same t k r (found-fits t k s q))
+
+module _ (rule : Row → Changed) {t u : List ℕ} {k : ℕ} where
+  -- HEADLINE: setup, erase, preset, arm, acknowledge and restore change the named row alone.
+  pub makes-spares : {a : Done} → Makes rule t k u a → Spares t k u
+  makes-spares w = rw (w .table) (spares t k (ruled rule t k))
+
+  -- HEADLINE: where one of them is refused, every word stays.
+  pub undone-keeps : (e : Refusal) → Makes rule t k u (Undone e) → u ≡ t
+  unfolding tableAfter
+  undone-keeps e w = go (ruled rule t k) refl
+    where
+      go : (c : Changed) → ruled rule t k ≡ c → u ≡ t
+      go (Kept x) q = w .table ∙ rw q
+      go (To r) q = absurd (let z : _≡_ {A = ℕ} 0 1 = cc (w .answer) in omega arith)
+
+  -- HEADLINE: where it is done, there is an axis of that number, and its row is the one that the rule makes of it.
+  pub done-makes : Makes rule t k u Yes → (k < axesIn (length t)) × (rule (rowAt t k) ≡ To (rowAt u k))
+  done-makes w = go (ruled rule t k) refl
+    where
+      go : (c : Changed) → ruled rule t k ≡ c → (k < axesIn (length t)) × (rule (rowAt t k) ≡ To (rowAt u k))
+      go (Kept x) q = absurd (let z : _≡_ {A = ℕ} 0 1 = cc (w .answer) in omega arith)
+      go (To r) q =
+          let f = replaced rule t k r q in
+          let e : rowAt u k ≡ r = rw (w .table, q) (f .2) in
+          (f .0, rw e (f .1))
+
+-- What a reading makes of the named row, by what it answers.
+stored : (x : ℕ) (t : List ℕ) (k : ℕ) → ruled (readRow x) t k ≡ storedRow (rowAt t k) (readIn x t k)
+unfolding readRow storedRow
+stored x t k = go (located t k) refl
+  where
+    go : (l : Located) → located t k ≡ l → onFound Kept (readRow x) l ≡ storedRow (rowAt t k) (onFound Unreckoned (readingRow x) l)
+    go (Refused e) q = refl
+    go (At r) q = ap (λ (s : Row). storedRow s (readingRow x r)) (sym (found t k r q .1))
+
+module _ (x : ℕ) {t u : List ℕ} {k : ℕ} where
+  -- HEADLINE: a reading changes the named row alone.
+  pub reads-spares : {a : Reckoned} → Reads x t k u a → Spares t k u
+  reads-spares w = rw (w .table) (spares t k (ruled (readRow x) t k))
+
+  -- HEADLINE: where it is refused, every word stays.
+  pub unread-keeps : (e : Refusal) → Reads x t k u (Unreckoned e) → u ≡ t
+  unfolding tableAfter storedRow
+  unread-keeps e w = w .table ∙ rw (stored x t k, ← (w .answer))
+
+  -- HEADLINE: where it is accepted, the position that is answered is stored in the named row.
+  pub read-stores : (p : ℤ) → Reads x t k u (Number p) →
+      (k < axesIn (length t)) × (readingRow x (rowAt t k) ≡ Number p) × (rowAt u k ≡ rowOf (readAxis p (axisOf (rowAt t k))))
+  unfolding storedRow
+  read-stores p w =
+      let q : ruled (readRow x) t k ≡ To (rowOf (readAxis p (axisOf (rowAt t k)))) = stored x t k ∙ rw (← (w .answer)) refl in
+      let f = replaced (readRow x) t k _ q in
+      (f .0, sym (w .answer ∙ ap (onFound Unreckoned (readingRow x)) (sym (found-at t k (f .0)))), rw (w .table, q) (f .2))

@@ -1,19 +1,17 @@
 -- The laws of the named row, and of the refusals LENGTH and AXIS: document 01, "Reasons for saying no".
 use Prim.Native.Nat.{ℕ, _+_, _*_, _≤_, _<_}
 use native.Mathlib.Omega.{arith}
-use mathlib.Core.Path.{_≡_, refl, sym, ap, _∙_}
+use mathlib.Core.Path.{_≡_, refl}
 use mathlib.Core.Logic.{_≢_}
 use mathlib.Core.Bool.{Bool, true, false, cond}
 use mathlib.Core.List.{List}
 use lib.Dec.{eqb, ltb}
 use lib.ListN.{length}
 use borrow.Author.Tests.{eq-eqb, ne-eqb, lt-ltb, le-ltb, ltb-true}
-use Rattle.refusal.specs.declared.Refusal.{Refusal}
 use Rattle.refusal.specs.declared.Refusal.the-variants.{Length, Axis}
 use Rattle.axis.specs.declared.row.Row.{Row}
 use Rattle.table.specs.Table.{axesIn, rowAt}
 use Rattle.table.specs.Located.{located}
-use Rattle.table.specs.declared.rows.Located.{Located}
 use Rattle.table.specs.declared.rows.Located.the-variants.{At, Refused}
 use Rattle.table.proofs.TableLaws.{axes-fit}
 

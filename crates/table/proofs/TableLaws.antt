@@ -6,15 +6,24 @@ use mathlib.Core.Path.{_≡_, refl, sym, ap, _∙_}
 use mathlib.Core.Logic.{_≢_, _↔_}
 use mathlib.Core.Bool.{Bool, true, false, cond, _&&_}
 use mathlib.Core.List.{List}
-use lib.Dec.{eqb, leb}
+use lib.Dec.{eqb, leb, ltb}
 use lib.ListN.{length, getD, set, length-set}
-use lib.Seq.{getD-set-same, getD-set-other, lt-length-set, ext-getD}
-use borrow.Author.Tests.{eq-eqb, eqb-true, eqb-false, le-leb, leb-true}
+use lib.Seq.{getD-set-same, getD-set-other, lt-length-set, set-out, ext-getD}
+use borrow.Author.Tests.{eq-eqb, eqb-true, eqb-false, le-leb, leb-true, ltb-true, ltb-false}
 use Rattle.axis.specs.Row.{Words}
 use Rattle.axis.specs.declared.row.Row.{Row}
-use Rattle.table.specs.Table.{axesIn, rowAt, setRow}
+use Rattle.table.specs.Table.{axesIn, rowAt, setRow, AllWords}
 
 -- ---- how many axes
+
+-- A length that passes the test holds a fourth of it, and any other none.
+pub axes-held : (len : ℕ) → (eqb (len % 4) 0 && leb (len / 4) 16) ≡ true → len / 4 ≡ axesIn len
+unfolding axesIn
+axes-held len e = rw e
+
+pub axes-none : (len : ℕ) → (eqb (len % 4) 0 && leb (len / 4) 16) ≡ false → 0 ≡ axesIn len
+unfolding axesIn
+axes-none len e = rw e
 
 -- Four words for each axis lie in the slice.
 pub axes-fit : (len : ℕ) → axesIn len * 4 ≤ len
@@ -67,12 +76,13 @@ length-wrong len = (
 
 -- ---- a row, and a row replaced
 
--- HEADLINE: no call changes a table's length.
+-- A row replaced leaves the length.
 pub length-setRow : (t : List ℕ) (k : ℕ) (r : Row) → length (setRow t k r) ≡ length t
 unfolding setRow
 length-setRow t k r = simp length-set
 
-word-other : (t : List ℕ) (k i : ℕ) (r : Row) → i / 4 ≢ k → getD (setRow t k r) i 0 ≡ getD t i 0
+-- HEADLINE: a row replaced leaves every word outside it.
+pub word-other : (t : List ℕ) (k i : ℕ) (r : Row) → i / 4 ≢ k → getD (setRow t k r) i 0 ≡ getD t i 0
 unfolding setRow
 word-other t k i r h =
     let n0 : i ≢ k * 4 = omega arith in
@@ -81,7 +91,7 @@ word-other t k i r h =
     let n3 : i ≢ k * 4 + 3 = omega arith in
     simp getD-set-other
 
--- HEADLINE: every other row stays.
+-- Every other row stays.
 pub row-other : (t : List ℕ) (k j : ℕ) (r : Row) → j ≢ k → rowAt (setRow t k r) j ≡ rowAt t j
 unfolding rowAt
 row-other t k j r h i = record {
@@ -126,3 +136,34 @@ table-ext t u n a b f = ext-getD 0 t u (a ∙ sym b) word
     word i h =
         let q : i / 4 * 4 + i % 4 ≡ i = omega arith in
         rw q at (same-word t u (i / 4) (f (i / 4) (omega arith)) (i % 4) (omega arith))
+
+-- ---- words of 64 bits
+
+-- A store of a word of 64 bits leaves such words.
+store-words : (t : List ℕ) (j v : ℕ) → AllWords t → v < 2 ^ 64 → AllWords (set t j v)
+store-words t j v h l i = go (eqb i j) refl (ltb j (length t)) refl
+  where
+    go : (e : Bool) → eqb i j ≡ e → (o : Bool) → ltb j (length t) ≡ o → getD (set t j v) i 0 < 2 ^ 64
+    go false e o q = let n : i ≢ j = eqb-false _ _ e in rw getD-set-other (h i)
+    go true e false q = let n : length t ≤ j = ltb-false _ _ q in rw set-out (h i)
+    go true e true q =
+        let n : j < length t = ltb-true _ _ q in
+        let x : i ≡ j = eqb-true _ _ e in
+        rw (x, getD-set-same) l
+
+-- HEADLINE: the rows of a table of 64-bit words are four such words each.
+pub row-words : (t : List ℕ) (k : ℕ) → AllWords t → Words (rowAt t k)
+unfolding rowAt
+row-words t k h = record { w0 = h (k * 4); w1 = h (k * 4 + 1); w2 = h (k * 4 + 2); w3 = h (k * 4 + 3) }
+
+-- A row of four such words leaves a table of such words.
+pub set-words : (t : List ℕ) (k : ℕ) (r : Row) → AllWords t → Words r → AllWords (setRow t k r)
+unfolding setRow
+set-words t k r h w =
+    let t0 = set t (k * 4) (r .w0) in
+    let t1 = set t0 (k * 4 + 1) (r .w1) in
+    let t2 = set t1 (k * 4 + 2) (r .w2) in
+    store-words t2 (k * 4 + 3) (r .w3)
+    (store-words t1 (k * 4 + 2) (r .w2)
+    (store-words t0 (k * 4 + 1) (r .w1)
+    (store-words t (k * 4) (r .w0) h (w .w0)) (w .w1)) (w .w2)) (w .w3)

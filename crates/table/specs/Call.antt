@@ -1,9 +1,9 @@
 -- What the calls that name one axis promise: document 01, "Calls that name one axis".
-use Prim.Native.Nat.{ℕ}
+use Prim.Native.Nat.{ℕ, _/_, _≤_}
 use mathlib.Core.Path.{_≡_}
+use mathlib.Core.Logic.{_≢_}
 use mathlib.Core.List.{List}
-use lib.ListN.{length}
-use lib.IntN.{ℤ}
+use lib.ListN.{length, getD, take, drop}
 use Rattle.reckon.specs.declared.Reckoned.{Reckoned}
 use Rattle.reckon.specs.declared.Reckoned.the-variants.{Refused as Unreckoned}
 use Rattle.record.specs.declared.answer.Written.{Written}
@@ -16,7 +16,7 @@ use Rattle.calls.specs.declared.answer.Changed.the-variants.{To, Kept}
 use Rattle.calls.specs.declared.answer.Done.{Done}
 use Rattle.calls.specs.declared.answer.Viewed.{Viewed}
 use Rattle.calls.specs.declared.answer.Viewed.the-variants.{Refused as Unseen}
-use Rattle.table.specs.Table.{setRow}
+use Rattle.table.specs.Table.{rowAt, setRow}
 use Rattle.table.specs.Located.{located, onFound}
 
 -- What a call makes of the named row, by its rule for one row.
@@ -27,6 +27,12 @@ ruled rule t k = onFound Kept rule (located t k)
 unfoldable pub tableAfter : List ℕ → ℕ → Changed → List ℕ
 tableAfter t k (To r) = setRow t k r
 tableAfter t k (Kept e) = t
+
+-- What a call on axis k keeps of a table: its length, every word outside the named row, and so every other row.
+pub record Spares (t : List ℕ) (k : ℕ) (u : List ℕ) : Type 0 where
+  pub size : length u ≡ length t
+  pub words : (i : ℕ) → i / 4 ≢ k → getD u i 0 ≡ getD t i 0
+  pub rows : (j : ℕ) → j ≢ k → rowAt u j ≡ rowAt t j
 
 -- What writing back promises, for what a call makes of row k: t before, u after, and the answer.
 pub record Commits (c : Changed) (t : List ℕ) (k : ℕ) (u : List ℕ) (a : Done) : Type 0 where
@@ -62,3 +68,11 @@ saveIn room t k = onFound Unwritten (saveRow room) (located t k)
 pub record Saves (t : List ℕ) (k : ℕ) (b d : List ℕ) (a : Written) : Type 0 where
   pub answer : a ≡ saveIn (length b) t k
   pub buffer : d ≡ onFound (λ _. b) (savedIn b) (located t k)
+
+-- What is written at the front of a buffer, b before and d after: n bytes for which there is room, and nothing beyond.
+pub record Fronts (bytes b : List ℕ) (n : ℕ) (d : List ℕ) : Type 0 where
+  pub size : length bytes ≡ n
+  pub room : n ≤ length b
+  pub front : take n d ≡ bytes
+  pub beyond : drop n d ≡ drop n b
+  pub whole : length d ≡ length b

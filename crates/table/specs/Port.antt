@@ -1,13 +1,13 @@
 -- A port sample on a table: document 01, "A port sample".
 use Prim.Native.Nat.{ℕ, zero, suc, _+_, _*_, _^_, _<_}
 use mathlib.Core.Path.{_≡_}
-use mathlib.Core.Bool.{Bool, cond}
+use mathlib.Core.Bool.{Bool, false, cond}
 use mathlib.Core.List.{List}
 use lib.Dec.{eqb}
 use lib.ListN.{length}
 use Rattle.refusal.specs.Refusal.{numberOf, foundIn}
 use Rattle.refusal.specs.declared.Refusal.the-variants.{Length}
-use Rattle.fields.specs.Field.{fieldOf}
+use Rattle.fields.specs.Field.{fieldOf, flagOf}
 use Rattle.motion.specs.Step.{stepRow}
 use Rattle.motion.specs.declared.step.SteppedRow.{SteppedRow}
 use Rattle.table.specs.Table.{axesIn, rowAt, setRow}
@@ -77,6 +77,17 @@ sampledAnswer t port =
 pub record Samples (t : List ℕ) (port : ℕ) (u : List ℕ) (a : Sampled) : Type 0 where
   pub answer : a ≡ sampledAnswer t port
   pub table : u ≡ sampledTable t port
+
+-- Axis k's bits of the three masks.
+pub record Bits (m : Masks) (k : ℕ) (double rise bad : Bool) : Type 0 where
+  pub doubles : flagOf k (m .doubles) ≡ double
+  pub index : flagOf k (m .index) ≡ rise
+  pub broken : flagOf k (m .broken) ≡ bad
+
+-- Row k keeps every word through a sample, and sets no bit but perhaps that of the broken rows.
+pub record Stays (t : List ℕ) (port k : ℕ) (bad : Bool) : Type 0 where
+  pub row : rowAt (sampledTable t port) k ≡ rowAt t k
+  pub bits : (m : Masks) → sampledAnswer t port ≡ Seen m → Bits m k false false bad
 
 -- The number of the refusal, 0 where there is none.
 abbrev pub sampledNumber : Sampled → ℕ

@@ -1,5 +1,5 @@
 -- A table of axes in a slice of words: document 01, "One row, four words".
-use Prim.Native.Nat.{ℕ, _+_, _*_, _/_, _%_}
+use Prim.Native.Nat.{ℕ, _+_, _*_, _/_, _%_, _^_, _<_}
 use mathlib.Core.Bool.{cond, _&&_}
 use mathlib.Core.List.{List}
 use lib.Dec.{eqb, leb}
@@ -18,3 +18,7 @@ rowAt t k =
 -- A table with row k replaced.
 unfoldable pub setRow : List ℕ → ℕ → Row → List ℕ
 setRow t k r = set (set (set (set t (k * 4) (r .w0)) (k * 4 + 1) (r .w1)) (k * 4 + 2) (r .w2)) (k * 4 + 3) (r .w3)
+
+-- Every word of a table has 64 bits.
+abbrev pub AllWords : List ℕ → Type 0
+AllWords t = (i : ℕ) → getD t i 0 < 2 ^ 64

@@ -1,3 +1,4 @@
 pub mod TraceLaws
 pub mod DecimalLaws
 pub mod TextLaws
+pub mod OutcomeLaws

@@ -63,9 +63,9 @@ unfolding fedWith tracedBy
 fed-none x = rw (take-nil, add-zero)
 
 -- A byte below the limit is one port sample.
-pub fed-one : (x : Trace) (b : ℕ) (t : List ℕ) → x .samples < LIMIT → t ≡ sampledTable (x .words) b → record { words = t; samples = x .samples + 1 } ≡ fedWith x (b ∷ [])
+pub fed-sample : (x : Trace) (b : ℕ) (t : List ℕ) → x .samples < LIMIT → t ≡ sampledTable (x .words) b → record { words = t; samples = x .samples + 1 } ≡ fedWith x (b ∷ [])
 unfolding fedWith tracedBy
-fed-one x b t h e =
+fed-sample x b t h e =
     let q : take (LIMIT - x .samples) (b ∷ []) ≡ b ∷ [] = take-all (LIMIT - x .samples) (b ∷ []) (omega arith) in
     rw (q, e)
 

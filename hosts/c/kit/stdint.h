@@ -8,5 +8,6 @@ typedef __UINT64_TYPE__ uint64_t;
 typedef __INT64_TYPE__ int64_t;
 #define INT64_MIN (-__INT64_MAX__ - 1)
 #define INT64_MAX __INT64_MAX__
+#define UINT32_MAX __UINT32_MAX__
 #define UINT64_MAX __UINT64_MAX__
 #endif

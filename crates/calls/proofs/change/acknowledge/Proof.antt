@@ -6,7 +6,6 @@ use Rattle.calls.specs.Change.{changed, acknowledgeAxis}
 use Rattle.calls.specs.Calls.{acknowledgeRow}
 use Rattle.calls.proofs.StatusLaws.{sampled-positioned, packs}
 use lib.Dec.{lit<}
-use mathlib.Core.Bool.{false}
 use borrow.Author.Needs.{needs}
 use Rattle.calls.proofs.change.acknowledge.Statement.{statement}
 use Rattle.calls.proofs.change.acknowledge.Tie as tie
@@ -31,9 +30,7 @@ unpack-requires c κs = sampled-positioned (c .before .before .before .args .r) 
 
 pack-requires : tie.Need-pack-requires
 unfolding changed
-pack-requires c κs =
-    let u = c .unpack .result in
-    packs u (c .before .before .before .before .args .r) (c .unpack .ensures) (u .word) (u .armed) (u .homed) (u .range) false 0 (lit< tt)
+pack-requires c κs = packs (c .unpack .result) (c .before .before .before .before .args .r) (c .unpack .ensures) _ _ _ _ _ _ (lit< tt)
 
 returns : tie.Need-returns
 unfolding acknowledgeRow

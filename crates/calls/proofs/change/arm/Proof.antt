@@ -5,7 +5,6 @@ use Rattle.calls.specs.declared.answer.Changed.the-variants.{To}
 use Rattle.calls.specs.Change.{changed, armAxis}
 use Rattle.calls.specs.Calls.{armRow}
 use Rattle.calls.proofs.StatusLaws.{sampled-positioned, packs}
-use mathlib.Core.Bool.{true, false}
 use borrow.Author.Needs.{needs}
 use Rattle.calls.proofs.change.arm.Statement.{statement}
 use Rattle.calls.proofs.change.arm.Tie as tie
@@ -30,9 +29,7 @@ unpack-requires c κs = sampled-positioned (c .before .before .before .args .r) 
 
 pack-requires : tie.Need-pack-requires
 unfolding changed
-pack-requires c κs =
-    let u = c .unpack .result in
-    packs u (c .before .before .before .before .args .r) (c .unpack .ensures) (u .word) true false (u .range) (u .index) (u .doubles) (search needs)
+pack-requires c κs = packs (c .unpack .result) (c .before .before .before .before .args .r) (c .unpack .ensures) _ _ _ _ _ _ (search needs)
 
 returns : tie.Need-returns
 unfolding armRow

@@ -33,20 +33,19 @@ word-of-requires c κs = rw (back (c .before .before .before .fits .position)) (
 
 pack-requires : tie.Need-pack-requires
 unfolding changed
-pack-requires c κs =
-    let u = c .before .unpack .result in
-    packs u (c .before .before .before .before .args .r) (c .before .unpack .ensures) (c .word-of .result) (u .armed) false false (u .index) (u .doubles) (search needs)
+pack-requires c κs = packs (c .before .unpack .result) (c .before .before .before .before .args .r) (c .before .unpack .ensures) _ _ _ _ _ _ (search needs)
 
 returns-2 : tie.Need-returns-2
 unfolding changed placeRow
 returns-2 c =
-    let p = c .before .before .before .before .before .args .position in
-    let u = c .before .before .unpack in
+    let s = c .before .before .before .before .before in
+    let u = c .before .before .unpack .result in
+    let w = rw (back (s .fits .position)) at (c .before .word-of .ensures) in
     rw (ok (c .before .before .before))
     (ap To
     (c .pack .ensures
-    ∙ ap (λ (w : ℕ). rowOf (changed (u .result) w (u .result .armed) false false (u .result .index) (u .result .doubles))) (rw (back (c .before .before .before .before .before .fits .position)) at (c .before .word-of .ensures))
-    ∙ ap (λ (a : Axis). rowOf (presetAxis p a)) (u .ensures)))
+    ∙ ap (λ (n : ℕ). rowOf (changed u n (u .armed) false false (u .index) (u .doubles))) w
+    ∙ ap (λ (a : Axis). rowOf (presetAxis (s .args .position) a)) (c .before .before .unpack .ensures)))
 
 pub placed-spec : {M : Type 1} → statement M
 placed-spec =

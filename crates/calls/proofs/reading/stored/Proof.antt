@@ -17,18 +17,17 @@ word-of-requires c κs = search needs
 
 pack-requires : tie.Need-pack-requires
 unfolding changed
-pack-requires c κs =
-    let u = c .before .unpack .result in
-    packs u (c .before .before .args .r) (c .before .unpack .ensures) (c .word-of .result) (u .armed) (u .homed) (u .range) (u .index) (u .doubles) (search needs)
+pack-requires c κs = packs (c .before .unpack .result) (c .before .before .args .r) (c .before .unpack .ensures) _ _ _ _ _ _ (search needs)
 
 returns : tie.Need-returns
 unfolding changed
 returns c =
     let s = c .before .before .before in
-    let u = c .before .before .unpack in
+    let u = c .before .before .unpack .result in
+    let w = rw (back (s .fits .position)) at (c .before .word-of .ensures) in
     c .pack .ensures
-    ∙ ap (λ (w : ℕ). rowOf (changed (u .result) w (u .result .armed) (u .result .homed) (u .result .range) (u .result .index) (u .result .doubles))) (rw (back (s .fits .position)) at (c .before .word-of .ensures))
-    ∙ ap (λ (a : Axis). rowOf (readAxis (s .args .position) a)) (u .ensures)
+    ∙ ap (λ (n : ℕ). rowOf (changed u n (u .armed) (u .homed) (u .range) (u .index) (u .doubles))) w
+    ∙ ap (λ (a : Axis). rowOf (readAxis (s .args .position) a)) (c .before .before .unpack .ensures)
 
 pub stored-spec : {M : Type 1} → statement M
 stored-spec = tie.close (tie.spec unpack-requires word-of-requires pack-requires returns)

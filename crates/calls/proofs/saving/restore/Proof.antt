@@ -44,7 +44,7 @@ setup-at-requires : tie.Need-setup-at-requires
 setup-at-requires c κs = search needs
 
 pack-requires : tie.Need-pack-requires
-pack-requires c κs = subst Narrow (sym (c .setup-at .ensures)) (setup-held (said (c .before .before) .config) (c .before .word-of .result) (limits (c .before .before) .0) .narrow)
+pack-requires c κs = subst Narrow (sym (c .setup-at .ensures)) (setup-held (said (c .before .before) .config) _ (limits (c .before .before) .0) .narrow)
 
 returns : tie.Need-returns
 unfolding restoreRow restoredBy

@@ -1,5 +1,4 @@
 use Rattle.motion.specs.Pace.{pacedDirection, pacedAge, pacedPeriod}
-use mathlib.Core.Path.{refl}
 use borrow.Author.Needs.{needs}
 use Rattle.motion.proofs.pace.paced.Statement.{statement}
 use Rattle.motion.proofs.pace.paced.Tie as tie
@@ -27,19 +26,19 @@ enum-told-4 c = search needs
 
 returns : tie.Need-returns
 unfolding pacedDirection pacedAge pacedPeriod
-returns c = rw (c .before .enum-told .given .1) (refl, c .older-by-one .ensures, refl)
+returns c = rw (c .before .enum-told .given .1, c .older-by-one .ensures)
 
 returns-2 : tie.Need-returns-2
 unfolding pacedDirection pacedAge pacedPeriod
-returns-2 c = rw (c .before .enum-told2 .given .1) (refl, refl, c .step-period .ensures)
+returns-2 c = rw (c .before .enum-told2 .given .1, c .step-period .ensures)
 
 returns-3 : tie.Need-returns-3
 unfolding pacedDirection pacedAge pacedPeriod
-returns-3 c = rw (c .before .enum-told3 .given .1) (refl, refl, c .step-period2 .ensures)
+returns-3 c = rw (c .before .enum-told3 .given .1, c .step-period2 .ensures)
 
 returns-4 : tie.Need-returns-4
 unfolding pacedDirection pacedAge pacedPeriod
-returns-4 c = rw (c .enum-told4 .given .1) (refl, refl, refl)
+returns-4 c = rw (c .enum-told4 .given .1)
 
 pub paced-spec : {M : Type 1} → statement M
 paced-spec =

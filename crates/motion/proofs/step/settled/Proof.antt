@@ -24,26 +24,24 @@ count-doubles-requires c κs = search needs
 returns : tie.Need-returns
 unfolding settle three
 returns c =
-    let counted = c .before .before .before .before .before .before .before .before .before .before .before .before .count .ensures in
-    let paced = c .before .before .before .before .before .before .before .before .before .before .before .paced .ensures in
     let given = c .before .before .before .before .before .before .before .before .before .before .before .before .before .before .before .before .pre in
     rw (← (given .0), ← (given .1))
     (agree (record {
-      word = rw (c .before .before .before .before .before .before .before .home .ensures, counted .0);
+      word = rw (c .before .before .before .before .before .before .before .home .ensures, c .before .before .before .before .before .before .before .before .before .before .before .before .count .ensures);
       kind = refl;
       depth = refl;
       width = refl;
       primed = refl;
       armed = refl;
       homed = refl;
-      range = rw (counted .1);
-      index = rw (c .before .before .before .check .ensures, counted .0);
+      range = rw (c .before .before .before .before .before .before .before .before .before .before .before .before .count .ensures);
+      index = rw (c .before .before .before .check .ensures, c .before .before .before .before .before .before .before .before .before .before .before .before .count .ensures);
       levels = refl;
       runs = refl;
       doubles = c .count-doubles .ensures;
-      direction = paced .0;
-      age = paced .1;
-      period = paced .2;
+      direction = rw (c .before .before .before .before .before .before .before .before .before .before .before .paced .ensures);
+      age = rw (c .before .before .before .before .before .before .before .before .before .before .before .paced .ensures);
+      period = rw (c .before .before .before .before .before .before .before .before .before .before .before .paced .ensures);
       turn = refl;
     }))
 

@@ -2,7 +2,7 @@ use mathlib.Core.Path.{_≡_, refl, ap, _∙_}
 use Prim.Native.Nat.{_+_, _-_, _^_, _≤_, _<_}
 use native.Mathlib.Nat.{pow-le-pow-right, lt-of-lt-of-le}
 use native.Mathlib.Omega.{arith}
-use Rattle.record.specs.Bytes.{Bytes, numberFrom, numberAt}
+use Rattle.record.specs.Bytes.{AllBytes, numberFrom, numberAt}
 use Rattle.record.proofs.BytesLaws.{number-next, number-below}
 use Rattle.record.proofs.bytes.number.Statement.{statement}
 use Rattle.record.proofs.bytes.number.Tie as tie
@@ -17,7 +17,7 @@ module _ (c : tie.After-shared-slice-known Inv-loop μ-loop) where
   abbrev at-loop : tie.At-loop Inv-loop μ-loop
   at-loop = c .before .before
 
-  bytes : Bytes (at-loop .before .args .slice .now)
+  bytes : AllBytes (at-loop .before .args .slice .now)
   bytes k = c .shared-slice-known .given k .fits
 
   -- at most seven bytes were read before this one

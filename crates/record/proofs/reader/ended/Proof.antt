@@ -1,13 +1,15 @@
 use borrow.Author.Needs.{needs}
-use mathlib.Core.Path.{_≡_, sym, _∙_}
+use mathlib.Core.Path.{_≡_, sym, ap, _∙_}
 use mathlib.Core.Bool.{true}
 use borrow.Author.Tests.{eq-eqb, ne-eqb, not-true, not-false}
 use lib.Dec.{eqb}
+use lib.IntN.{ℤ}
 use lib.ListN.{length}
 use mir.Syntax.{w64}
 use mir.Val.{toZ, ofZ}
 use mir.Facts.{sfits-toZ}
 use Rattle.integers.proofs.Machine.{back}
+use Rattle.record.specs.declared.answer.Read.the-variants.{Accepted}
 use Rattle.record.specs.declared.field.Field.the-variants.{Value}
 use Rattle.record.specs.Record.{fieldAt, endedAt, within, saying, END}
 use Rattle.record.proofs.reader.ended.Statement.{statement}
@@ -70,7 +72,8 @@ returns-4 : tie.Need-returns-4
 unfolding endedAt
 returns-4 c =
     let a = c .before .before .before .before .before in
-    rw (found a, whole (c .before .before .before), limits (c .before) ∙ not-false _ (c .if2 .left), placed (c .before .before))
+    rw (found a, whole (c .before .before .before), limits (c .before) ∙ not-false _ (c .if2 .left))
+    (ap (λ (z : ℤ). Accepted (record { config = start a .args .config; position = z })) (placed (c .before .before)))
 
 pub ended-spec : {M : Type 1} → statement M
 ended-spec =

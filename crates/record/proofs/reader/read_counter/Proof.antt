@@ -1,7 +1,7 @@
 use borrow.Author.Needs.{needs}
 use mathlib.Core.Path.{_≡_, sym, _∙_}
 use Rattle.record.specs.declared.field.Field.the-variants.{Value}
-use Rattle.record.specs.Bytes.{Bytes}
+use Rattle.record.specs.Bytes.{AllBytes}
 use Rattle.record.specs.Record.{fieldAt, counterAt, WIDTH}
 use Rattle.record.proofs.FieldLaws.{field-below}
 use Rattle.record.proofs.reader.read_counter.Statement.{statement}
@@ -11,7 +11,7 @@ module _ (c : tie.After-width) where
   abbrev start : tie.Start
   start = c .before .before .before .before
 
-  bytes : Bytes (start .args .slice .now)
+  bytes : AllBytes (start .args .slice .now)
   bytes k = c .before .before .before .shared-slice-known .given k .fits
 
   -- the width that was read

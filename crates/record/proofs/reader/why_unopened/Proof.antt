@@ -1,14 +1,14 @@
 use borrow.Author.Needs.{needs}
 use mathlib.Core.Path.{_≡_, sym, _∙_}
 use Rattle.record.specs.declared.field.Field.the-variants.{Value}
-use Rattle.record.specs.Bytes.{Bytes}
+use Rattle.record.specs.Bytes.{AllBytes}
 use Rattle.record.specs.Record.{fieldAt, unopened, LAYOUT}
 use Rattle.record.proofs.FieldLaws.{field-below}
 use Rattle.record.proofs.reader.why_unopened.Statement.{statement}
 use Rattle.record.proofs.reader.why_unopened.Tie as tie
 
 module _ (c : tie.After-layout) where
-  bytes : Bytes (c .before .before .before .before .args .slice .now)
+  bytes : AllBytes (c .before .before .before .before .args .slice .now)
   bytes k = c .before .before .before .shared-slice-known .given k .fits
 
   found : fieldAt (c .before .before .before .before .args .slice .now) 0 LAYOUT 2 ≡ Value (c .layout .given .0 .0) (c .layout .given .0 .1 .0)

@@ -1,14 +1,12 @@
 use borrow.Author.Needs.{needs}
 use mathlib.Core.Path.{_≡_, sym, ap, _∙_}
 use mathlib.Core.Bool.{true}
-use Prim.Native.Nat.{ℕ}
 use borrow.Author.Tests.{not-true, not-false}
-use lib.Seq.{sets}
 use mir.Syntax.{w64}
 use mir.Val.{SFits, ofZ}
 use Rattle.integers.proofs.Machine.{back}
-use Rattle.record.specs.Record.{within, counterBytes, sampledBytes}
-use Rattle.record.proofs.WriterLaws.{outside, no-room, wrote, counter-record, sampled-record, counter-long, sampled-long}
+use Rattle.record.specs.Record.{within}
+use Rattle.record.proofs.WriterLaws.{outside, counter-full, counter-wrote, sampled-full, sampled-wrote}
 use Rattle.record.proofs.writer.save.Statement.{statement}
 use Rattle.record.proofs.writer.save.Tie as tie
 
@@ -47,7 +45,7 @@ returns-2 : tie.Need-returns-2
 returns-2 c =
     let i = c .before .before in
     let a = start i .args in
-    no-room (a .buf .now) (a .saved) (good i) (counter-long (a .saved) (sym (i .is-counter .ensures) ∙ c .before .if2 .taken)) (c .if3 .taken)
+    counter-full (a .buf .now) (a .saved) (good i) (sym (i .is-counter .ensures) ∙ c .before .if2 .taken) (c .if3 .taken)
 
 cast-put-counter : tie.Need-cast-put-counter
 cast-put-counter c = search needs
@@ -63,18 +61,13 @@ returns-3 c =
     let e = c .before .before .before .before .before in
     let i = e .before .before in
     let a = start i .args in
-    let b = a .buf .now in
-    let k = sym (i .is-counter .ensures) ∙ e .before .if2 .taken in
-    wrote b (a .saved) (good i) (counter-long (a .saved) k) (e .if3 .left)
-    (c .before .before .put-counter .ensures
-    ∙ ap (λ (m : ℕ). sets b 0 (counterBytes (a .saved .config .kind) m (a .saved .config .width))) (placed i)
-    ∙ ap (sets b 0) (sym (counter-record (a .saved) k)))
+    counter-wrote (a .buf .now) (a .saved) (good i) (sym (i .is-counter .ensures) ∙ e .before .if2 .taken) (placed i) (e .if3 .left) (c .before .before .put-counter .ensures)
 
 returns-4 : tie.Need-returns-4
 returns-4 c =
     let i = c .before .before in
     let a = start i .args in
-    no-room (a .buf .now) (a .saved) (good i) (sampled-long (a .saved) (sym (i .is-counter .ensures) ∙ c .before .if2 .left)) (c .if4 .taken)
+    sampled-full (a .buf .now) (a .saved) (good i) (sym (i .is-counter .ensures) ∙ c .before .if2 .left) (c .if4 .taken)
 
 cast-put-sampled : tie.Need-cast-put-sampled
 cast-put-sampled c = search needs
@@ -93,12 +86,7 @@ returns-5 c =
     let e = c .before .before .before .before .before .before in
     let i = e .before .before in
     let a = start i .args in
-    let b = a .buf .now in
-    let k = sym (i .is-counter .ensures) ∙ e .before .if2 .left in
-    wrote b (a .saved) (good i) (sampled-long (a .saved) k) (e .if4 .left)
-    (c .before .before .put-sampled .ensures
-    ∙ ap (λ (m : ℕ). sets b 0 (sampledBytes (a .saved .config .kind) m (a .saved .config .depth) (a .saved .config .turn))) (placed i)
-    ∙ ap (sets b 0) (sym (sampled-record (a .saved) k)))
+    sampled-wrote (a .buf .now) (a .saved) (good i) (sym (i .is-counter .ensures) ∙ e .before .if2 .left) (placed i) (e .if4 .left) (c .before .before .put-sampled .ensures)
 
 pub save-spec : {M : Type 1} → statement M
 save-spec =

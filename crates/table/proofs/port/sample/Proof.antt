@@ -10,11 +10,6 @@ use Rattle.table.proofs.TableLaws.{axes-fit, axes-most}
 use Rattle.table.proofs.PortLaws.{length-sampledTo, masks-below, masks-next, table-next, sample-none, sample-all}
 use Rattle.table.proofs.port.sample.Statement.{statement}
 use Rattle.table.proofs.port.sample.Tie as tie
-use Rattle.table.proofs.port.sample.Reads as reads
-use Rattle.table.proofs.port.sample.Lts as lts
-use Rattle.table.proofs.port.note.Reads as note-reads
-use Rattle.table.proofs.port.sample_row.Reads as sample-row-reads
-use Rattle.table.proofs.rows.axes_in.Reads as axes-in-reads
 
 -- What holds with k rows done.
 record Reached (t₀ : List ℕ) (port n : ℕ) (t : List ℕ) (m : Masks) (k : ℕ) : Type 0 where
@@ -28,15 +23,12 @@ Inv-loop table₀ port n masks₀ k₀ table masks k = Reached table₀ port n t
 abbrev μ-loop : tie.MeasureT-loop
 μ-loop table₀ port n masks₀ k₀ table masks k = n - k
 
--- src/port.rt:69:9
 axes-in-requires : tie.Need-axes-in-requires Inv-loop μ-loop
 axes-in-requires c κs = search needs
 
--- src/port.rt:71:9
 returns : tie.Need-returns Inv-loop μ-loop
 returns c = sample-none _ _ (sym (c .before .axes-in .ensures) ∙ c .if1 .taken)
 
--- src/port.rt:79:5
 loop-holds : tie.Need-loop-holds Inv-loop μ-loop
 unfolding sampledTo masksTo maskOf
 loop-holds c = record { within = search needs; table = refl; masks = refl }
@@ -54,34 +46,27 @@ module _ (c : tie.In-loop Inv-loop μ-loop) where
         ap length (c .before .loop .inv .table) ∙ length-sampledTo (a .table .now) (nibble (a .port)) (c .before .loop .k),
       )
 
--- src/port.rt:80:13
 sample-row-requires : tie.Need-sample-row-requires Inv-loop μ-loop
 sample-row-requires c κs = (small (c .before), inside (c .before))
 
--- src/port.rt:81:9
 note-requires : tie.Need-note-requires Inv-loop μ-loop
 note-requires c κs = (small (c .before .before .before .before), rw (c .before .before .before .before .before .loop .inv .masks) (masks-below _ _ _))
 
--- src/port.rt:82:9
 add-k : tie.Need-add-k Inv-loop μ-loop
 add-k c = search needs
 
--- src/port.rt:79:5
 loop-less : tie.Need-loop-less Inv-loop μ-loop
 loop-less c = search needs
 
--- src/port.rt:79:5
 loop-again : tie.Need-loop-again Inv-loop μ-loop
 loop-again c =
     let a = c .before .before .before .before .before .before .before .before .before .before .args in
     let k = c .before .before .before .before .before .before .loop .k in
     record { within = search needs; table = cc (table-next (a .table .now) (nibble (a .port)) k); masks = cc (masks-next (a .table .now) (nibble (a .port)) k) }
 
--- src/port.rt:66:1
 same-length : tie.Need-same-length Inv-loop μ-loop
 same-length c = ap length (c .before .loop .inv .table) ∙ length-sampledTo _ _ _
 
--- src/port.rt:66:1
 returns-2 : tie.Need-returns-2 Inv-loop μ-loop
 returns-2 c =
     let v = c .before .loop .inv in

@@ -8,28 +8,19 @@ use Rattle.table.proofs.LocatedLaws.{found-none, found-past, found-at}
 use borrow.Author.Needs.{needs}
 use Rattle.table.proofs.rows.locate.Statement.{statement}
 use Rattle.table.proofs.rows.locate.Tie as tie
-use Rattle.table.proofs.rows.locate.Reads as reads
-use Rattle.table.proofs.rows.locate.Lts as lts
-use Rattle.table.proofs.rows.axes_in.Reads as axes-in-reads
-use Rattle.table.proofs.rows.read_row.Reads as read-row-reads
 
--- src/rows.rt:56:9
 axes-in-requires : tie.Need-axes-in-requires
 axes-in-requires c κs = search needs
 
--- src/rows.rt:58:9
 returns : tie.Need-returns
 returns c = found-none _ _ (omega arith)
 
--- src/rows.rt:61:28
 read-row-requires : tie.Need-read-row-requires
 read-row-requires c κs = omega (arith, axes-fit (length (c .before .before .before .before .args .table .now)))
 
--- src/rows.rt:61:9
 returns-2 : tie.Need-returns-2
 returns-2 c = ap {B = Located} (λ (r : Row). Located.At r) (c .read-row .ensures) ∙ found-at _ _ (omega arith)
 
--- src/rows.rt:53:1
 returns-3 : tie.Need-returns-3
 returns-3 c = found-past _ _ (omega arith) (omega arith)
 

@@ -3,58 +3,43 @@ use Rattle.table.specs.Table.{rowAt}
 use borrow.Author.Needs.{needs}
 use Rattle.table.proofs.rows.read_row.Statement.{statement}
 use Rattle.table.proofs.rows.read_row.Tie as tie
-use Rattle.table.proofs.rows.read_row.Reads as reads
-use Rattle.table.proofs.rows.read_row.Lts as lts
 
--- src/rows.rt:31:14
 mul-at : tie.Need-mul-at
 mul-at c = search needs
 
--- src/rows.rt:33:13
 mul-t4 : tie.Need-mul-t4
 mul-t4 c = search needs
 
--- src/rows.rt:33:13
 shared-slice-read-t6 : tie.Need-shared-slice-read-t6
 shared-slice-read-t6 c = search needs
 
--- src/rows.rt:34:19
 add-t7 : tie.Need-add-t7
 add-t7 c = search needs
 
--- src/rows.rt:34:13
 mul-t8 : tie.Need-mul-t8
 mul-t8 c = search needs
 
--- src/rows.rt:34:13
 shared-slice-read-t10 : tie.Need-shared-slice-read-t10
 shared-slice-read-t10 c = search needs
 
--- src/rows.rt:35:19
 add-t11 : tie.Need-add-t11
 add-t11 c = search needs
 
--- src/rows.rt:35:13
 mul-t12 : tie.Need-mul-t12
 mul-t12 c = search needs
 
--- src/rows.rt:35:13
 shared-slice-read-t14 : tie.Need-shared-slice-read-t14
 shared-slice-read-t14 c = search needs
 
--- src/rows.rt:36:19
 add-t15 : tie.Need-add-t15
 add-t15 c = search needs
 
--- src/rows.rt:36:13
 mul-t16 : tie.Need-mul-t16
 mul-t16 c = search needs
 
--- src/rows.rt:36:13
 shared-slice-read-t18 : tie.Need-shared-slice-read-t18
 shared-slice-read-t18 c = search needs
 
--- src/rows.rt:27:1
 returns : tie.Need-returns
 unfolding rowAt
 returns c = refl

@@ -5,62 +5,46 @@ use Rattle.table.specs.Table.{setRow}
 use borrow.Author.Needs.{needs}
 use Rattle.table.proofs.rows.write_row.Statement.{statement}
 use Rattle.table.proofs.rows.write_row.Tie as tie
-use Rattle.table.proofs.rows.write_row.Reads as reads
-use Rattle.table.proofs.rows.write_row.Lts as lts
 
--- src/rows.rt:45:14
 mul-at : tie.Need-mul-at
 mul-at c = search needs
 
--- src/rows.rt:46:5
 mul-table : tie.Need-mul-table
 mul-table c = search needs
 
--- src/rows.rt:46:5
 slice-write-table : tie.Need-slice-write-table
 slice-write-table c = search needs
 
--- src/rows.rt:47:11
 add-table : tie.Need-add-table
 add-table c = search needs
 
--- src/rows.rt:47:5
 mul-table-2 : tie.Need-mul-table-2
 mul-table-2 c = search needs
 
--- src/rows.rt:47:5
 slice-write-table-2 : tie.Need-slice-write-table-2
 slice-write-table-2 c = simp length-set (omega arith)
 
--- src/rows.rt:48:11
 add-table-2 : tie.Need-add-table-2
 add-table-2 c = search needs
 
--- src/rows.rt:48:5
 mul-table-3 : tie.Need-mul-table-3
 mul-table-3 c = search needs
 
--- src/rows.rt:48:5
 slice-write-table-3 : tie.Need-slice-write-table-3
 slice-write-table-3 c = simp length-set (omega arith)
 
--- src/rows.rt:49:11
 add-table-3 : tie.Need-add-table-3
 add-table-3 c = search needs
 
--- src/rows.rt:49:5
 mul-table-4 : tie.Need-mul-table-4
 mul-table-4 c = search needs
 
--- src/rows.rt:49:5
 slice-write-table-4 : tie.Need-slice-write-table-4
 slice-write-table-4 c = simp length-set (omega arith)
 
--- src/rows.rt:41:1
 same-length : tie.Need-same-length
 same-length c = search needs
 
--- src/rows.rt:41:1
 returns : tie.Need-returns
 unfolding setRow
 returns c = refl

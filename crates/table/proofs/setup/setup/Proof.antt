@@ -4,45 +4,31 @@ use Rattle.table.proofs.CallLaws.{not-found, found-makes}
 use borrow.Author.Needs.{needs}
 use Rattle.table.proofs.setup.setup.Statement.{statement}
 use Rattle.table.proofs.setup.setup.Tie as tie
-use Rattle.table.proofs.setup.setup.Reads as reads
-use Rattle.table.proofs.setup.setup.Lts as lts
-use Rattle.calls.proofs.setup.setup.Reads as setup-reads
-use Rattle.table.proofs.commit.commit.Reads as commit-reads
-use Rattle.table.proofs.rows.locate.Reads as locate-reads
 
--- src/setup.rt:13:11
 locate-requires : tie.Need-locate-requires
 locate-requires c κs = search needs
 
--- src/setup.rt:14:26
 enum-known-e : tie.Need-enum-known-e
 enum-known-e c = search needs
 
--- src/setup.rt:15:34
 enum-told : tie.Need-enum-told
 enum-told c = search needs
 
--- src/setup.rt:15:47
 setup-requires : tie.Need-setup-requires
 setup-requires c κs = search needs
 
--- src/setup.rt:15:27
 commit-requires : tie.Need-commit-requires
 commit-requires c κs = found-fits _ _ _ (sym (c .before .before .before .before .locate .ensures) ∙ c .before .before .enum-told .given .1)
 
--- src/setup.rt:10:1
 same-length : tie.Need-same-length
 same-length c = search needs
 
--- src/setup.rt:10:1
 returns : tie.Need-returns
 returns c = not-found _ _ _ _ (sym (c .before .before .before .locate .ensures) ∙ c .before .e .given .1)
 
--- src/setup.rt:10:1
 same-length-2 : tie.Need-same-length-2
 same-length-2 c = search needs
 
--- src/setup.rt:10:1
 returns-2 : tie.Need-returns-2
 returns-2 c =
     let q = sym (c .before .before .before .before .before .before .before .locate .ensures) ∙ c .before .before .before .before .before .enum-told .given .1 in

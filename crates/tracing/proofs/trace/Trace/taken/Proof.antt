@@ -1,7 +1,7 @@
 use mathlib.Core.Path.{sym}
 use mathlib.Core.List.{[], _∷_}
 use native.Mathlib.Omega.{arith}
-use Rattle.tracing.proofs.TraceLaws.{past-limit, fed-one}
+use Rattle.tracing.proofs.TraceLaws.{past-limit, fed-sample}
 use borrow.Author.Needs.{needs}
 use Rattle.tracing.proofs.trace.Trace.taken.Statement.{statement}
 use Rattle.tracing.proofs.trace.Trace.taken.Tie as tie
@@ -21,7 +21,7 @@ add-t8 c = search needs
 returns-2 : tie.Need-returns-2
 returns-2 c =
     let a = c .before .before .before .before .before .before .before .args in
-    fed-one (a .self) (a .byte) _ (omega arith) (c .before .before .sample .ensures .table)
+    fed-sample (a .self) (a .byte) _ (omega arith) (c .before .before .sample .ensures .table)
 
 pub taken-spec : {M : Type 1} → statement M
 taken-spec = tie.close (tie.spec returns slice-aggregate-sample sample-requires add-t8 returns-2)

@@ -1,0 +1,103 @@
+-- Demand 2 for a counter row: its position after any events.
+use mathlib.Core.Path.{_≡_, refl, sym, _∙_, ap}
+use mathlib.Core.Bool.{true, true≢false}
+use mathlib.Core.List.{List, _∷_}
+use Prim.Native.Nat.{ℕ}
+use lib.IntN.{ℤ, pos}
+use Rattle.position.specs.Position.{inRange, positionOf}
+use Rattle.position.proofs.PositionLaws.{position-word}
+use Rattle.reckon.specs.Widening.{widened}
+use Rattle.reckon.specs.declared.Reckoned.the-variants.{Number}
+use Rattle.axis.specs.Config.{goodConfig}
+use Rattle.axis.specs.Row.{axisOf, Words}
+use Rattle.axis.specs.Sound.{statusOf}
+use Rattle.axis.specs.declared.row.Axis.{Axis}
+use Rattle.axis.specs.declared.row.Row.{Row}
+use Rattle.axis.specs.declared.sound.Status.the-variants.{Counter}
+use Rattle.motion.specs.declared.step.SteppedRow.{SteppedRow}
+use Rattle.motion.proofs.RowLaws.{counter-stays}
+use Rattle.record.specs.Record.{readAs}
+use Rattle.record.specs.declared.answer.Saved.{Saved}
+use Rattle.record.specs.declared.answer.Read.the-variants.{Accepted}
+use Rattle.record.proofs.RecordLaws.{accepted-within}
+use Rattle.calls.specs.Change.{changed}
+use Rattle.calls.specs.Calls.{leftBy, armRow, acknowledgeRow, readRow}
+use Rattle.calls.specs.Counter.{newest, shown, rowRead, Gentle, moved}
+use Rattle.calls.proofs.SaveLaws.{within-parts}
+use Rattle.calls.proofs.CounterLaws.{counter-follows, counter-position}
+use Rattle.history.specs.Event.{Event, setup, erase, preset, arm, acknowledge, view, reading, speed, save, restore, bits, asked, rowAfter, rowNext, rowSince}
+use Rattle.history.specs.Phase.{phaseOf, afterEvent, afterCall}
+use Rattle.history.specs.Counter.{aside, Reads, none, read, between}
+use Rattle.history.proofs.EventLaws.{reading-told, tells}
+use Rattle.history.proofs.RowHistory.{phase-lawful, status-history, counter-history}
+
+-- ---- the place of a phase
+
+-- HEADLINE: a setup that is accepted puts the place to 0.
+pub place-setup : (r : Row) (h : List Event) (kind depth width turn : ℕ) → goodConfig kind depth width turn ≡ true →
+    phaseOf r (asked (setup kind depth width turn) ∷ h) .place ≡ pos 0
+unfolding phaseOf afterEvent afterCall positionOf
+place-setup r h kind depth width turn good = rw good
+
+-- HEADLINE: a restore that is accepted puts the place to the position saved.
+pub place-restore : (r : Row) (h : List Event) (bytes : List ℕ) (s : Saved) → readAs bytes ≡ Accepted s →
+    phaseOf r (asked (restore bytes) ∷ h) .place ≡ s .position
+unfolding phaseOf afterEvent afterCall
+place-restore r h bytes s e = rw e (position-word (s .position) (within-parts s (accepted-within bytes s e) .1))
+
+module _ {r : Row} (words : Words r) (h : List Event) (counter : statusOf (rowSince r h) ≡ Counter) where
+  first : statusOf (phaseOf r h .start) ≡ Counter
+  first = sym (status-history words h) ∙ counter
+
+  -- HEADLINE: a preset in the range puts the place of a counter there.
+  pub place-preset : (z : ℤ) → inRange z ≡ true → phaseOf r (asked (preset z) ∷ h) .place ≡ z
+  unfolding phaseOf afterEvent afterCall
+  place-preset z ok = rw (ok, first)
+
+  -- HEADLINE: a reading that is accepted puts the place of a counter where it says.
+  pub place-reading : (x : ℕ) (z : ℤ) → widened (axisOf (rowSince r h) .width) (positionOf (rowSince r h .w0)) x ≡ Number z →
+      phaseOf r (asked (reading x) ∷ h) .place ≡ z
+  unfolding phaseOf afterEvent afterCall
+  place-reading x z e = rw (first, sym (reading-told words (tells words h) x first) ∙ e)
+
+  -- HEADLINE: the position of a counter is its phase's place.
+  pub position-counter : positionOf (rowSince r h .w0) ≡ phaseOf r h .place
+  unfolding changed
+  position-counter =
+      ap (λ (x : Axis). positionOf (x .word)) (counter-history words h first)
+      ∙ position-word (phaseOf r h .place) (phase-lawful words h .placed first)
+
+-- ---- a counter on a shaft
+
+aside-stays : (r : Row) → statusOf r ≡ Counter → (e : Event) → aside e ≡ true → rowNext r e ≡ r
+unfolding rowNext rowAfter armRow acknowledgeRow aside
+aside-stays r c (bits n) q = ap (λ (t : SteppedRow). t .row) (counter-stays r n c)
+aside-stays r c (asked (setup kind depth width turn)) q = absurd (true≢false (sym q))
+aside-stays r c (asked erase) q = absurd (true≢false (sym q))
+aside-stays r c (asked (preset z)) q = absurd (true≢false (sym q))
+aside-stays r c (asked arm) q = rw c
+aside-stays r c (asked acknowledge) q = rw c
+aside-stays r c (asked view) q = refl
+aside-stays r c (asked (reading x)) q = absurd (true≢false (sym q))
+aside-stays r c (asked (speed rate)) q = refl
+aside-stays r c (asked (save buffer)) q = refl
+aside-stays r c (asked (restore bytes)) q = absurd (true≢false (sym q))
+
+module _ (r : Row) (counter : statusOf r ≡ Counter) where
+  abbrev width : ℕ
+  width = axisOf r .width
+
+  abbrev start : ℤ
+  start = positionOf (axisOf r .word)
+
+  only-readings : {h : List Event} {ps : List ℤ} → Reads width h ps → Gentle width start ps → rowSince r h ≡ rowRead width r ps
+  unfolding rowSince rowRead rowNext rowAfter
+  only-readings none g = refl
+  only-readings (read p d) (moved q ps ok near g) = ap (λ (s : Row). leftBy s (readRow (shown width p) s)) (only-readings d g)
+  only-readings (between e q d) g =
+      let same = only-readings d g in
+      aside-stays _ (ap statusOf same ∙ counter-follows r counter g .status) e q ∙ same
+
+  -- HEADLINE: a counter on a shaft that moves less than half a turn between readings is where the shaft is, whatever else happens to its row between.
+  pub counter-shaft : {h : List Event} {ps : List ℤ} → Reads width h ps → Gentle width start ps → positionOf (rowSince r h .w0) ≡ newest start ps
+  counter-shaft d g = ap (λ (s : Row). positionOf (s .w0)) (only-readings d g) ∙ counter-position r counter g

@@ -1,0 +1,197 @@
+-- One event more: a row and the phase that tells it stay together.
+use mathlib.Core.Path.{_≡_, refl, sym, _∙_, ap, subst}
+use mathlib.Core.Bool.{Bool, true, false, cond}
+use mathlib.Core.List.{List, [], _∷_}
+use Prim.Native.Nat.{ℕ}
+use native.Mathlib.Omega.{arith}
+use lib.IntN.{ℤ, pos}
+use Rattle.position.specs.Position.{inRange, wordOf}
+use Rattle.position.proofs.PositionLaws.{word-position, position-word, position-in-range}
+use Rattle.refusal.specs.declared.Refusal.{Refusal}
+use Rattle.refusal.specs.declared.Refusal.the-variants.{Kind as KIND}
+use Rattle.reckon.specs.Widening.{widened}
+use Rattle.reckon.specs.declared.Reckoned.{Reckoned}
+use Rattle.reckon.specs.declared.Reckoned.the-variants.{Number, Refused as Unreckoned}
+use Rattle.reckon.proofs.NearestLaws.{nearest}
+use Rattle.axis.specs.Config.{goodConfig}
+use Rattle.axis.specs.Row.{axisOf, word1Of, word2Of, rowOf, Words}
+use Rattle.axis.specs.Sound.{statusOf}
+use Rattle.axis.specs.declared.row.Axis.{Axis}
+use Rattle.axis.specs.declared.row.Row.{Row}
+use Rattle.axis.specs.declared.sound.Status.{Status}
+use Rattle.axis.specs.declared.sound.Status.the-variants.{Empty, Sampled, Counter, Broken}
+use Rattle.axis.proofs.SoundLaws.{counter-gives, packed-again}
+use Rattle.motion.specs.Lines.{rawOf}
+use Rattle.motion.specs.Step.{stepBy, stepRow}
+use Rattle.record.specs.Record.{readAs}
+use Rattle.record.specs.declared.answer.Read.{Read}
+use Rattle.record.specs.declared.answer.Read.the-variants.{Accepted, Refused as Unread}
+use Rattle.record.proofs.RecordLaws.{accepted-within}
+use Rattle.calls.specs.Change.{changed, readAxis}
+use Rattle.calls.specs.Calls.{byStatus, leftBy, configOf, setupRow, eraseRow, placeRow, presetRow, armRow, acknowledgeRow, readingOf, readingRow, storedRow, readRow, restoredBy, restoreRow}
+use Rattle.calls.specs.declared.answer.Changed.the-variants.{To, Kept}
+use Rattle.calls.proofs.SaveLaws.{within-parts}
+use Rattle.history.specs.Acts.{Act, act, sampled, Accepted as Agreed}
+use Rattle.history.specs.Acts.{preset as placed, arm as armed, acknowledge as acknowledged}
+use Rattle.history.specs.Told.{told}
+use Rattle.history.specs.Event.{Op, Event, setup, erase, preset, arm, acknowledge, view, reading, speed, save, restore, bits, asked, rowAfter, rowNext, rowSince}
+use Rattle.history.specs.Phase.{Phase, begun, acted, moved, bySort, readTo, restoredTo, afterCall, afterEvent, phaseOf, toldBy, toldRow}
+use Rattle.history.specs.Lawful.{Beginning, given, erased, made, Lawful}
+use Rattle.history.proofs.ToldLaws.{told-first, act-told}
+use Rattle.history.proofs.StartLaws.{start-sound}
+use Rattle.history.proofs.PhaseLaws.{counter-preset, start-words, told-holds, axis-sampled, axis-counter}
+
+-- A phase tells a row.
+pub record Tells (r : Row) (p : Phase) (now : Row) : Type 0 where
+  pub lawful : Lawful r p
+  pub row : now ≡ toldRow p
+
+-- A test before the sorts is a test in each.
+test-sorts : (b : Bool) (q u p : Phase) (s : Status) → cond b (bySort q u s p) p ≡ bySort (cond b q p) (cond b u p) s p
+test-sorts true q u p s = refl
+test-sorts false q u p Empty = refl
+test-sorts false q u p Sampled = refl
+test-sorts false q u p Counter = refl
+test-sorts false q u p Broken = refl
+
+module _ {r : Row} (words : Words r) where
+  -- A phase that has just begun tells the row that it began with.
+  starts : {s : Row} → Beginning r s → Tells r (begun s) s
+  unfolding toldRow toldBy changed
+  starts {s} b = record {
+    lawful = record { began = b; legal = tt; placed = λ e. let c = counter-gives s e in position-in-range (s .w0) (c .above) (c .below) };
+    row = go (statusOf s) refl;
+  }
+    where
+      again : (statusOf s ≡ Broken → ⊥) → rowOf (axisOf s) ≡ s
+      again = packed-again s (start-words words b)
+
+      go : (t : Status) → statusOf s ≡ t → s ≡ toldBy t (begun s)
+      go Empty e = refl
+      go Sampled e = sym (ap rowOf (told-first (axisOf s) (start-sound s e)) ∙ again (λ f. let z : _≡_ {A = ℕ} 0 1 = cc in omega arith))
+      go Counter e =
+          let c = counter-gives s e in
+          sym (ap (λ (w : ℕ). record { w0 = w; w1 = word1Of (axisOf s); w2 = word2Of (axisOf s); w3 = s .w3 }) (word-position (s .w0) (c .above) (c .below))
+          ∙ again (λ f. let z : _≡_ {A = ℕ} 0 1 = cc in omega arith))
+      go Broken e = refl
+
+  module _ {p : Phase} {now : Row} (t : Tells r p now) where
+    status-now : statusOf now ≡ statusOf (p .start)
+    status-now = ap statusOf (t .row) ∙ told-holds (t .lawful) words .status
+
+    sampled-now : statusOf (p .start) ≡ Sampled → axisOf now ≡ told (axisOf (p .start)) (p .acts)
+    sampled-now e = ap axisOf (t .row) ∙ axis-sampled (t .lawful) e
+
+    counter-now : statusOf (p .start) ≡ Counter → axisOf now ≡ readAxis (p .place) (axisOf (p .start))
+    counter-now e = ap axisOf (t .row) ∙ axis-counter (t .lawful) e
+
+    -- One act more on a sampled row.
+    acts : (a : Act) → Agreed a → statusOf (p .start) ≡ Sampled → Tells r (acted p a) (rowOf (act (axisOf now) a))
+    unfolding toldRow toldBy
+    acts a ok e =
+        let l = t .lawful in
+        record {
+          lawful = record { began = l .began; legal = (ok, l .legal); placed = l .placed };
+          row =
+              rw e (ap (λ (x : Axis). rowOf (act x a)) (sampled-now e)
+              ∙ ap rowOf (act-told (axisOf (p .start)) (start-sound (p .start) e) a (p .acts) (ok, l .legal)));
+        }
+
+    -- Another position of a counter.
+    moves : (z : ℤ) → inRange z ≡ true → statusOf (p .start) ≡ Counter → Tells r (moved p z) (rowOf (readAxis z (axisOf now)))
+    unfolding toldRow toldBy changed
+    moves z ok e =
+        let l = t .lawful in
+        record {
+          lawful = record { began = l .began; legal = l .legal; placed = λ _. ok };
+          row = rw e (ap (λ (x : Axis). rowOf (readAxis z x)) (counter-now e));
+        }
+
+    -- What a reading says of the row, it says of the phase's place.
+    pub reading-told : (x : ℕ) → statusOf (p .start) ≡ Counter → readingOf x (axisOf now) ≡ widened (axisOf (p .start) .width) (p .place) x
+    unfolding changed
+    reading-told x e =
+        ap (readingOf x) (counter-now e)
+        ∙ ap (λ (z : ℤ). widened (axisOf (p .start) .width) z x) (position-word (p .place) (t .lawful .placed e))
+
+    -- What goes by the row's status, and leaves an empty and a broken row.
+    by-sort : (next : Status → Row) (sampledOne counterOne : Phase) → next Empty ≡ now → next Broken ≡ now →
+        (statusOf (p .start) ≡ Sampled → Tells r sampledOne (next Sampled)) →
+        (statusOf (p .start) ≡ Counter → Tells r counterOne (next Counter)) →
+        Tells r (bySort sampledOne counterOne (statusOf (p .start)) p) (next (statusOf now))
+    by-sort next sampledOne counterOne empty broken onSampled onCounter = rw status-now (go (statusOf (p .start)) refl)
+      where
+        go : (s : Status) → statusOf (p .start) ≡ s → Tells r (bySort sampledOne counterOne s p) (next s)
+        go Empty e = rw empty t
+        go Sampled e = onSampled e
+        go Counter e = onCounter e
+        go Broken e = rw broken t
+
+    -- What goes by a test of the arguments: another row and another phase, or neither.
+    by-test : (b : Bool) (q : Phase) (s : Row) (e : Refusal) → (b ≡ true → Tells r q s) → Tells r (cond b q p) (leftBy now (cond b (To s) (Kept e)))
+    by-test true q s e f = f refl
+    by-test false q s e f = t
+
+    -- ---- the events
+
+    sets : (kind depth width turn : ℕ) → Tells r (afterCall p (setup kind depth width turn)) (rowAfter now (setup kind depth width turn))
+    unfolding afterCall rowAfter setupRow wordOf inRange
+    sets kind depth width turn =
+        by-test (goodConfig kind depth width turn) _ _ _ (λ good. starts (made (configOf kind depth width turn) (pos 0) good refl))
+
+    presets : (z : ℤ) → Tells r (afterCall p (preset z)) (rowAfter now (preset z))
+    unfolding afterCall rowAfter presetRow placeRow act
+    presets z =
+        subst (λ (q : Phase). Tells r q (rowAfter now (preset z))) (sym (test-sorts (inRange z) (acted p (placed z)) (moved p z) p (statusOf (p .start))))
+        (by-sort (λ s. leftBy now (byStatus Kept (placeRow z now) (placeRow z now) s)) _ _ refl refl
+        (λ e. by-test (inRange z) _ _ _ (λ ok. acts (placed z) ok e))
+        (λ e. by-test (inRange z) _ _ _ (λ ok. rw (counter-preset (counter-gives now (status-now ∙ e)) z) (moves z ok e))))
+
+    -- A call on sampled rows only.
+    sampled-only : (a : Act) → Agreed a →
+        Tells r (bySort (acted p a) p (statusOf (p .start)) p) (leftBy now (byStatus Kept (To (rowOf (act (axisOf now) a))) (Kept KIND) (statusOf now)))
+    sampled-only a ok =
+        by-sort (λ s. leftBy now (byStatus Kept (To (rowOf (act (axisOf now) a))) (Kept KIND) s)) (acted p a) p refl refl (acts a ok) (λ e. t)
+
+    readings : (x : ℕ) → Tells r (afterCall p (reading x)) (rowAfter now (reading x))
+    unfolding afterCall rowAfter readRow readingRow storedRow
+    readings x =
+        by-sort (λ s. leftBy now (storedRow now (byStatus Unreckoned (Unreckoned KIND) (readingOf x (axisOf now)) s))) p _ refl refl (λ e. t)
+        (λ e. rw (reading-told x e) (go e (widened (axisOf (p .start) .width) (p .place) x) refl))
+      where
+        go : statusOf (p .start) ≡ Counter → (a : Reckoned) → widened (axisOf (p .start) .width) (p .place) x ≡ a →
+            Tells r (readTo p a) (leftBy now (storedRow now a))
+        go e (Number z) f = moves z (nearest (axisOf (p .start) .width) (p .place) z x f .0) e
+        go e (Unreckoned c) f = t
+
+    restores : (bytes : List ℕ) → Tells r (afterCall p (restore bytes)) (rowAfter now (restore bytes))
+    unfolding afterCall rowAfter restoreRow restoredBy
+    restores bytes = go (readAs bytes) refl
+      where
+        go : (a : Read) → readAs bytes ≡ a → Tells r (restoredTo p a) (leftBy now (restoredBy a))
+        go (Accepted s) e = let w = within-parts s (accepted-within bytes s e) in starts (made (s .config) (s .position) (w .0) (w .1))
+        go (Unread f) e = t
+
+    calls : (o : Op) → Tells r (afterCall p o) (rowAfter now o)
+    unfolding afterCall rowAfter eraseRow armRow acknowledgeRow act
+    calls (setup kind depth width turn) = sets kind depth width turn
+    calls erase = starts erased
+    calls (preset z) = presets z
+    calls arm = sampled-only armed tt
+    calls acknowledge = sampled-only acknowledged tt
+    calls view = t
+    calls (reading x) = readings x
+    calls (speed rate) = t
+    calls (save buffer) = t
+    calls (restore bytes) = restores bytes
+
+    events : (e : Event) → Tells r (afterEvent p e) (rowNext now e)
+    unfolding afterEvent rowNext stepRow stepBy act
+    events (bits n) = by-sort (λ s. stepBy s now n .row) (acted p (sampled (rawOf n))) p refl refl (acts (sampled (rawOf n)) tt) (λ e. t)
+    events (asked o) = calls o
+
+  -- HEADLINE: the phase after any events tells the row after them.
+  pub tells : (h : List Event) → Tells r (phaseOf r h) (rowSince r h)
+  unfolding phaseOf rowSince
+  tells [] = starts given
+  tells (e ∷ h) = events (tells h) e

@@ -1,0 +1,134 @@
+-- What lasts: what a refused call, a sample on a row that is not sampled, and events that begin no phase leave as it was.
+use mathlib.Core.Path.{_≡_, refl, sym, _∙_, ap, subst}
+use mathlib.Core.Bool.{Bool, true, false, cond, true≢false}
+use mathlib.Core.List.{List, [], _∷_, _++_, append-nil}
+use Prim.Native.Nat.{ℕ}
+use Rattle.position.specs.Position.{inRange}
+use Rattle.refusal.specs.declared.Refusal.{Refusal}
+use Rattle.reckon.specs.Widening.{widened}
+use Rattle.reckon.specs.declared.Reckoned.{Reckoned}
+use Rattle.reckon.specs.declared.Reckoned.the-variants.{Number, Refused as Unreckoned}
+use Rattle.axis.specs.Row.{axisOf, Words}
+use Rattle.axis.specs.Sound.{statusOf}
+use Rattle.axis.specs.declared.row.Row.{Row}
+use Rattle.axis.specs.declared.sound.Status.{Status}
+use Rattle.axis.specs.declared.sound.Status.the-variants.{Empty, Sampled, Counter, Broken}
+use Rattle.motion.specs.After.{Configured}
+use Rattle.motion.specs.Step.{stepBy, stepRow}
+use Rattle.motion.proofs.RowLaws.{broken-stays}
+use Rattle.record.specs.Record.{readAs}
+use Rattle.record.specs.declared.answer.Read.{Read}
+use Rattle.record.specs.declared.answer.Read.the-variants.{Accepted, Refused as Unread}
+use Rattle.calls.specs.Calls.{leftBy, storedRow, readRow}
+use Rattle.history.specs.Event.{Op, Event, setup, erase, preset, arm, acknowledge, view, reading, speed, save, restore, bits, asked, rowAfter, Refused, rowNext, rowSince}
+use Rattle.history.specs.Phase.{Phase, moved, bySort, readTo, restoredTo, afterCall, afterEvent, phaseOf, toldBy, toldRow, marksOf}
+use Rattle.history.specs.Lasting.{isRead, begins, Lasting}
+use Rattle.history.proofs.PhaseLaws.{told-configured}
+use Rattle.history.proofs.RowHistory.{phase-lawful, row-history, status-history}
+
+-- ---- one event
+
+-- HEADLINE: a call that is refused changes nothing.
+pub refused-stays : (r : Row) (o : Op) (e : Refusal) → Refused r o e → rowNext r (asked o) ≡ r
+unfolding rowNext rowAfter readRow storedRow
+refused-stays r (setup kind depth width turn) e q = ap (leftBy r) q
+refused-stays r erase e q = ap (leftBy r) q
+refused-stays r (preset z) e q = ap (leftBy r) q
+refused-stays r arm e q = ap (leftBy r) q
+refused-stays r acknowledge e q = ap (leftBy r) q
+refused-stays r view e q = refl
+refused-stays r (reading x) e q = ap (λ (a : Reckoned). leftBy r (storedRow r a)) q
+refused-stays r (speed rate) e q = refl
+refused-stays r (save buffer) e q = refl
+refused-stays r (restore bytes) e q = ap (leftBy r) q
+
+-- HEADLINE: a sample changes no empty row, no counter and no broken row.
+pub sample-stays : (r : Row) (n : ℕ) → (statusOf r ≡ Sampled → ⊥) → rowNext r (bits n) ≡ r
+unfolding rowNext stepRow stepBy
+sample-stays r n not-sampled = go (statusOf r) refl
+  where
+    go : (s : Status) → statusOf r ≡ s → stepBy s r n .row ≡ r
+    go Empty e = refl
+    go Sampled e = absurd (not-sampled e)
+    go Counter e = refl
+    go Broken e = refl
+
+-- ---- until a phase begins
+
+module _ (p : Phase) where
+  sort-start : (q u : Phase) → q .start ≡ p .start → u .start ≡ p .start → (s : Status) → bySort q u s p .start ≡ p .start
+  sort-start q u f g Empty = refl
+  sort-start q u f g Sampled = f
+  sort-start q u f g Counter = g
+  sort-start q u f g Broken = refl
+
+  test-start : (b : Bool) (q : Phase) → q .start ≡ p .start → cond b q p .start ≡ p .start
+  test-start true q f = f
+  test-start false q f = refl
+
+  read-start : (a : Reckoned) → readTo p a .start ≡ p .start
+  read-start (Number z) = refl
+  read-start (Unreckoned e) = refl
+
+  restored-start : (a : Read) → isRead a ≡ false → restoredTo p a .start ≡ p .start
+  restored-start (Accepted s) q = absurd (true≢false q)
+  restored-start (Unread e) q = refl
+
+  -- An event that begins no phase leaves the phase's start.
+  start-next : (e : Event) → begins e ≡ false → afterEvent p e .start ≡ p .start
+  unfolding afterEvent afterCall begins
+  start-next (bits n) q = sort-start _ p refl refl (statusOf (p .start))
+  start-next (asked (setup kind depth width turn)) q = rw q
+  start-next (asked erase) q = absurd (true≢false q)
+  start-next (asked (preset z)) q = test-start (inRange z) _ (sort-start _ (moved p z) refl refl (statusOf (p .start)))
+  start-next (asked arm) q = sort-start _ p refl refl (statusOf (p .start))
+  start-next (asked acknowledge) q = sort-start _ p refl refl (statusOf (p .start))
+  start-next (asked view) q = refl
+  start-next (asked (reading x)) q =
+      sort-start p _ refl (read-start (widened (axisOf (p .start) .width) (p .place) x)) (statusOf (p .start))
+  start-next (asked (speed rate)) q = refl
+  start-next (asked (save buffer)) q = refl
+  start-next (asked (restore bytes)) q = restored-start (readAs bytes) q
+
+-- HEADLINE: newer events that begin no phase leave the start of the phase that they found.
+pub start-since : (r : Row) (new old : List Event) → Lasting new → phaseOf r (new ++ old) .start ≡ phaseOf r old .start
+unfolding phaseOf
+start-since r [] old l = refl
+start-since r (e ∷ new) old l = start-next (phaseOf r (new ++ old)) e (l .0) ∙ start-since r new old (l .1)
+
+-- Events that begin no phase leave the given row as the start.
+pub start-lasts : (r : Row) (h : List Event) → Lasting h → phaseOf r h .start ≡ r
+unfolding phaseOf
+start-lasts r h l = ap (λ (g : List Event). phaseOf r g .start) (sym (append-nil h)) ∙ start-since r h [] l
+
+module _ {r : Row} (words : Words r) (h : List Event) (lasting : Lasting h) where
+  -- HEADLINE: a row stays empty, sampled, a counter or broken until a setup, an erase or a restore is accepted.
+  pub status-lasts : statusOf (rowSince r h) ≡ statusOf r
+  status-lasts = status-history words h ∙ ap statusOf (start-lasts r h lasting)
+
+  -- HEADLINE: it keeps its kind, depth, width and counts per turn until then.
+  pub configuration-lasts : Configured (axisOf (rowSince r h)) (axisOf r)
+  configuration-lasts =
+      subst (λ (s : Row). Configured (axisOf (rowSince r h)) (axisOf s)) (start-lasts r h lasting)
+      (rw (row-history words h) (told-configured (phase-lawful words h)))
+
+  -- A row that is neither sampled nor a counter is the row that its phase began with.
+  idle-lasts : (s : Status) → toldBy s (phaseOf r h) ≡ phaseOf r h .start → statusOf r ≡ s → rowSince r h ≡ r
+  unfolding toldRow
+  idle-lasts s same e =
+      let start = start-lasts r h lasting in
+      row-history words h ∙ ap (λ (t : Status). toldBy t (phaseOf r h)) (ap statusOf start ∙ e) ∙ same ∙ start
+
+  -- HEADLINE: an empty row keeps every word until then.
+  pub empty-lasts : statusOf r ≡ Empty → rowSince r h ≡ r
+  unfolding toldBy
+  empty-lasts = idle-lasts Empty refl
+
+  -- HEADLINE: a broken row keeps every word until then.
+  pub broken-lasts : statusOf r ≡ Broken → rowSince r h ≡ r
+  unfolding toldBy
+  broken-lasts = idle-lasts Broken refl
+
+  -- HEADLINE: each sample on a broken row sets its broken bit and no other until then.
+  pub broken-marked : statusOf r ≡ Broken → (n : ℕ) → marksOf (stepRow (rowSince r h) n) ≡ record { double = false; index = false; broken = true }
+  broken-marked e n = ap marksOf (broken-stays (rowSince r h) n (status-lasts ∙ e))

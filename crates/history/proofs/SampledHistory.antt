@@ -1,0 +1,65 @@
+-- Demand 2 for a sampled row: its fields and its bits of the answer after any events, by what its phase began with and what has happened since.
+use mathlib.Core.Path.{_≡_, sym, _∙_, ap}
+use mathlib.Core.Bool.{false}
+use mathlib.Core.List.{List}
+use Prim.Native.Nat.{ℕ, _+_, min}
+use lib.IntN.{_+ℤ_}
+use Rattle.position.specs.Position.{positionOf}
+use Rattle.axis.specs.Row.{axisOf, Words}
+use Rattle.axis.specs.Sound.{statusOf}
+use Rattle.axis.specs.declared.row.Axis.{Axis}
+use Rattle.axis.specs.declared.row.Row.{Row}
+use Rattle.axis.specs.declared.sound.Status.the-variants.{Sampled}
+use Rattle.motion.specs.Lines.{Wire, rawOf, line}
+use Rattle.motion.specs.Step.{stepRow}
+use Rattle.history.specs.Acts.{after, Legal}
+use Rattle.history.specs.Start.{Start}
+use Rattle.history.specs.Levels.{levelAt, roseAt}
+use Rattle.history.specs.Entries.{numberOfE, doubleAt}
+use Rattle.history.specs.Tally.{sum, placeTally, doublesTally}
+use Rattle.history.specs.Event.{Event, rowSince}
+use Rattle.history.specs.Phase.{Marks, phaseOf, startAxis, actsSince, markedBy, toldMarks}
+use Rattle.history.proofs.ToldLaws.{whole-history}
+use Rattle.history.proofs.HistoryLaws.{level-history, position-history, doubles-history}
+use Rattle.history.proofs.StartLaws.{start-sound}
+use Rattle.history.proofs.RowHistory.{phase-lawful, status-history, sampled-history, marks-history}
+
+module _ {r : Row} (words : Words r) (h : List Event) (sampled : statusOf (rowSince r h) ≡ Sampled) where
+  first : statusOf (phaseOf r h .start) ≡ Sampled
+  first = sym (status-history words h) ∙ sampled
+
+  start : Start (startAxis r h)
+  start = start-sound (phaseOf r h .start) first
+
+  legal : Legal (actsSince r h)
+  legal = phase-lawful words h .legal
+
+  -- HEADLINE: the axis of the row is the axis after the acts of its phase.
+  pub axis-row : axisOf (rowSince r h) ≡ after (startAxis r h) (actsSince r h)
+  axis-row = sampled-history words h first ∙ sym (whole-history (startAxis r h) start (actsSince r h) legal)
+
+  -- HEADLINE: each filtered level is that of the latest consecutive equal raw samples.
+  pub level-row : (w : Wire) → line (axisOf (rowSince r h)) w .level ≡ levelAt (startAxis r h) w (actsSince r h)
+  level-row w = ap (λ (x : Axis). line x w .level) axis-row ∙ level-history (startAxis r h) start (actsSince r h) legal w
+
+  -- HEADLINE: while RANGE is clear, the position is the last value given plus the sum of the entries since.
+  pub position-row : axisOf (rowSince r h) .range ≡ false →
+      positionOf (rowSince r h .w0) ≡ placeTally (startAxis r h) (actsSince r h) .value .position +ℤ sum (placeTally (startAxis r h) (actsSince r h) .moves)
+  position-row clear =
+      ap (λ (x : Axis). positionOf (x .word)) axis-row
+      ∙ position-history (startAxis r h) start (actsSince r h) legal (sym (ap (λ (x : Axis). x .range) axis-row) ∙ clear)
+
+  -- HEADLINE: doubles is the smaller of 65,535 and the E entries since the last setup, restore or acknowledge.
+  pub doubles-row : axisOf (rowSince r h) .doubles ≡
+      min 65535 (doublesTally (startAxis r h) (actsSince r h) .value + numberOfE (doublesTally (startAxis r h) (actsSince r h) .moves))
+  doubles-row = ap (λ (x : Axis). x .doubles) axis-row ∙ doubles-history (startAxis r h) start (actsSince r h) legal
+
+  -- HEADLINE: a sample's double bit is set exactly where its entry is E.
+  pub double-bit-row : (n : ℕ) → stepRow (rowSince r h) n .double ≡ doubleAt (startAxis r h) (rawOf n) (actsSince r h)
+  unfolding toldMarks markedBy
+  double-bit-row n = ap (λ (m : Marks). m .double) (marks-history words h n) ∙ rw first
+
+  -- HEADLINE: a sample's index bit is set exactly where filtered Z rose.
+  pub index-bit-row : (n : ℕ) → stepRow (rowSince r h) n .index ≡ roseAt (startAxis r h) (rawOf n) (actsSince r h)
+  unfolding toldMarks markedBy
+  index-bit-row n = ap (λ (m : Marks). m .index) (marks-history words h n) ∙ rw first

@@ -1,0 +1,61 @@
+-- A call on a table of 64-bit words leaves such words: document 01, "One row, four words".
+use Prim.Native.Nat.{ℕ}
+use mathlib.Core.Path.{_≡_, refl}
+use mathlib.Core.List.{List}
+use native.Mathlib.Omega.{arith}
+use lib.IntN.{ℤ}
+use Rattle.axis.specs.Row.{emptyRow, Words}
+use Rattle.axis.specs.declared.row.Row.{Row}
+use Rattle.record.specs.Record.{readAs}
+use Rattle.record.specs.declared.answer.Read.{Read}
+use Rattle.record.specs.declared.answer.Read.the-variants.{Accepted, Refused as Unread}
+use Rattle.calls.specs.Calls.{setupRow, eraseRow, presetRow, armRow, acknowledgeRow, readRow, restoreRow}
+use Rattle.calls.specs.declared.answer.Changed.{Changed}
+use Rattle.calls.specs.declared.answer.Changed.the-variants.{To, Kept}
+use Rattle.calls.proofs.ChangeLaws.{preset-keeps, arm-keeps, acknowledge-keeps, read-keeps}
+use Rattle.calls.proofs.SetupLaws.{setup-makes, erase-makes}
+use Rattle.calls.proofs.SaveLaws.{restore-refused, restore-makes}
+use Rattle.table.specs.Table.{AllWords, rowAt}
+use Rattle.table.specs.Call.{ruled, tableAfter}
+use Rattle.table.proofs.TableLaws.{set-words}
+use Rattle.table.proofs.CallLaws.{replaced}
+
+-- A rule makes rows of 64-bit words.
+abbrev pub Made : (Row → Changed) → Type 0
+Made rule = (r q : Row) → rule r ≡ To q → Words q
+
+pub setup-made : (kind depth width turn : ℕ) → Made (setupRow kind depth width turn)
+setup-made kind depth width turn r q e = setup-makes kind depth width turn r q e .words
+
+pub erase-made : Made eraseRow
+erase-made r q e =
+    let m = erase-makes r in
+    let same : q ≡ emptyRow = cc (m .0) in
+    rw same (m .1 .words)
+
+pub preset-made : (p : ℤ) → Made (presetRow p)
+preset-made p r q e = preset-keeps p r q e .words
+
+pub arm-made : Made armRow
+arm-made r q e = arm-keeps r q e .words
+
+pub acknowledge-made : Made acknowledgeRow
+acknowledge-made r q e = acknowledge-keeps r q e .words
+
+pub read-made : (x : ℕ) → Made (readRow x)
+read-made x r q e = read-keeps x r q e .2 .words
+
+pub restore-made : (s : List ℕ) → Made (restoreRow s)
+restore-made s r q e = go (readAs s) refl
+  where
+    go : (a : Read) → readAs s ≡ a → Words q
+    go (Accepted said) h = restore-makes s said r q h e .words
+    go (Unread f) h = absurd (let w = restore-refused s f r h in let z : _≡_ {A = ℕ} 0 1 = cc in omega arith)
+
+-- HEADLINE: so does every call by such a rule.
+pub call-words : (rule : Row → Changed) → Made rule → (t : List ℕ) (k : ℕ) → AllWords t → AllWords (tableAfter t k (ruled rule t k))
+call-words rule made t k h = go (ruled rule t k) refl
+  where
+    go : (c : Changed) → ruled rule t k ≡ c → AllWords (tableAfter t k c)
+    go (Kept e) q = unfold tableAfter in h
+    go (To r) q = unfold tableAfter in set-words t k r h (made (rowAt t k) r (replaced rule t k r q .1))

@@ -1,0 +1,25 @@
+-- Each public call of a trace admits one outcome: document 01, "Programs that would slip past a lazy claim".
+use Prim.Native.Nat.{ℕ}
+use mathlib.Core.Path.{_≡_}
+use mathlib.Core.List.{List}
+use Rattle.refusal.proofs.OutcomeLaws.{one}
+use Rattle.tracing.specs.Trace.{started, fedWith, reportOf}
+use Rattle.tracing.specs.Text.{Writes}
+use Rattle.tracing.specs.declared.trace.Trace.{Trace}
+use Rattle.tracing.specs.declared.report.Report.{Report}
+
+-- HEADLINE: a start has one outcome.
+pub start-one : {a b : Trace} → a ≡ started → b ≡ started → a ≡ b
+start-one p q = one p q
+
+-- HEADLINE: so has feeding bytes.
+pub fed-one : (x : Trace) (bs : List ℕ) {a b : Trace} → a ≡ fedWith x bs → b ≡ fedWith x bs → a ≡ b
+fed-one x bs p q = one p q
+
+-- HEADLINE: so has a report.
+pub report-one : (x : Trace) {a b : Report} → a ≡ reportOf x → b ≡ reportOf x → a ≡ b
+report-one x p q = one p q
+
+-- HEADLINE: so has writing one, answer and buffer.
+pub write-one : (r : Report) (b : List ℕ) {c d : List ℕ} {m n : ℕ} → Writes r b c m → Writes r b d n → (m ≡ n) × (c ≡ d)
+write-one r b w z = (one (w .number) (z .number), one (w .buffer) (z .buffer))

@@ -1,0 +1,137 @@
+//! The proved library as C programs see it: the declarations of include/ubrenchip.h, and a safe function for each.
+
+/// What most calls answer.
+#[repr(C)]
+#[derive(Clone, Copy, PartialEq, Eq, Debug)]
+pub struct Answer {
+    pub refusal: u32,
+    pub found: u32,
+    pub value: i64,
+}
+
+/// What a port sample answers.
+#[repr(C)]
+#[derive(Clone, Copy, PartialEq, Eq, Debug)]
+pub struct Sampled {
+    pub refusal: u32,
+    pub found: u32,
+    pub doubles: u64,
+    pub index: u64,
+    pub broken: u64,
+}
+
+/// What a view shows.
+#[repr(C)]
+#[derive(Clone, Copy, PartialEq, Eq, Debug)]
+pub struct View {
+    pub refusal: u32,
+    pub found: u32,
+    pub position: i64,
+    pub kind: u32,
+    pub doubles: u32,
+    pub primed: u32,
+    pub armed: u32,
+    pub homed: u32,
+    pub range: u32,
+    pub index: u32,
+    pub unused: u32,
+}
+
+mod c {
+    use super::{Answer, Sampled, View};
+
+    extern "C" {
+        pub fn ubrenchip_widen(width: u64, position: i64, reading: u64) -> Answer;
+        pub fn ubrenchip_speed_by_count(difference: i64, samples: u64, rate: u64) -> Answer;
+        pub fn ubrenchip_test_record(record: *const u8, length: usize) -> Answer;
+        pub fn ubrenchip_sample(table: *mut u64, words: usize, port: u64) -> Sampled;
+        pub fn ubrenchip_setup(
+            table: *mut u64,
+            words: usize,
+            axis: u64,
+            kind: u64,
+            depth: u64,
+            width: u64,
+            turn: u64,
+        ) -> Answer;
+        pub fn ubrenchip_erase(table: *mut u64, words: usize, axis: u64) -> Answer;
+        pub fn ubrenchip_preset(table: *mut u64, words: usize, axis: u64, position: i64) -> Answer;
+        pub fn ubrenchip_arm(table: *mut u64, words: usize, axis: u64) -> Answer;
+        pub fn ubrenchip_acknowledge(table: *mut u64, words: usize, axis: u64) -> Answer;
+        pub fn ubrenchip_look(table: *const u64, words: usize, axis: u64) -> View;
+        pub fn ubrenchip_reading(table: *mut u64, words: usize, axis: u64, reading: u64) -> Answer;
+        pub fn ubrenchip_speed_by_period(table: *const u64, words: usize, axis: u64, rate: u64) -> Answer;
+        pub fn ubrenchip_save(table: *const u64, words: usize, axis: u64, buffer: *mut u8, length: usize) -> Answer;
+        pub fn ubrenchip_restore(table: *mut u64, words: usize, axis: u64, record: *const u8, length: usize) -> Answer;
+    }
+}
+
+/// The pointer that C passes for a slice: null where there is nothing.
+///
+/// It is a writable one for every slice, so that a call which writes where it should only read is seen to do so.
+fn pointer<T>(slice: &mut [T]) -> *mut T {
+    if slice.is_empty() {
+        std::ptr::null_mut()
+    } else {
+        slice.as_mut_ptr()
+    }
+}
+
+// Each call gets pointers to slices that are borrowed for as long as it runs, with their true lengths, and the header
+// promises to keep to them and to keep nothing. That is all that `unsafe` leaves to the caller.
+
+pub fn widen(width: u64, position: i64, reading: u64) -> Answer {
+    unsafe { c::ubrenchip_widen(width, position, reading) }
+}
+
+pub fn speed_by_count(difference: i64, samples: u64, rate: u64) -> Answer {
+    unsafe { c::ubrenchip_speed_by_count(difference, samples, rate) }
+}
+
+pub fn test_record(record: &mut [u8]) -> Answer {
+    unsafe { c::ubrenchip_test_record(pointer(record), record.len()) }
+}
+
+pub fn sample(table: &mut [u64], port: u64) -> Sampled {
+    unsafe { c::ubrenchip_sample(pointer(table), table.len(), port) }
+}
+
+pub fn setup(table: &mut [u64], axis: u64, kind: u64, depth: u64, width: u64, turn: u64) -> Answer {
+    unsafe { c::ubrenchip_setup(pointer(table), table.len(), axis, kind, depth, width, turn) }
+}
+
+pub fn erase(table: &mut [u64], axis: u64) -> Answer {
+    unsafe { c::ubrenchip_erase(pointer(table), table.len(), axis) }
+}
+
+pub fn preset(table: &mut [u64], axis: u64, position: i64) -> Answer {
+    unsafe { c::ubrenchip_preset(pointer(table), table.len(), axis, position) }
+}
+
+pub fn arm(table: &mut [u64], axis: u64) -> Answer {
+    unsafe { c::ubrenchip_arm(pointer(table), table.len(), axis) }
+}
+
+pub fn acknowledge(table: &mut [u64], axis: u64) -> Answer {
+    unsafe { c::ubrenchip_acknowledge(pointer(table), table.len(), axis) }
+}
+
+pub fn look(table: &mut [u64], axis: u64) -> View {
+    unsafe { c::ubrenchip_look(pointer(table), table.len(), axis) }
+}
+
+pub fn reading(table: &mut [u64], axis: u64, reading: u64) -> Answer {
+    unsafe { c::ubrenchip_reading(pointer(table), table.len(), axis, reading) }
+}
+
+pub fn speed_by_period(table: &mut [u64], axis: u64, rate: u64) -> Answer {
+    unsafe { c::ubrenchip_speed_by_period(pointer(table), table.len(), axis, rate) }
+}
+
+pub fn save(table: &mut [u64], axis: u64, buffer: &mut [u8]) -> Answer {
+    unsafe { c::ubrenchip_save(pointer(table), table.len(), axis, pointer(buffer), buffer.len()) }
+}
+
+pub fn restore(table: &mut [u64], axis: u64, record: &mut [u8]) -> Answer {
+    unsafe { c::ubrenchip_restore(pointer(table), table.len(), axis, pointer(record), record.len()) }
+}

@@ -1,0 +1,165 @@
+//! Document 01's own readings ("Readings to hold it against"), each asked through calls.
+
+use crate::call::{Call, Memory, Outcome};
+use crate::face::{Answer, Sampled, View};
+
+const TOP: i64 = (1 << 62) - 1;
+const VALUE: u32 = 6;
+const HALF: u32 = 7;
+const ROOM: u32 = 10;
+
+/// A table of one axis, and the side that answers.
+struct Bench<'a> {
+    memory: Memory,
+    side: &'a mut dyn FnMut(&Call, &mut Memory) -> Outcome,
+}
+
+impl Bench<'_> {
+    fn call(&mut self, call: Call) -> Answer {
+        match (self.side)(&call, &mut self.memory) {
+            Outcome::Answer(answer) => answer,
+            other => panic!("{call:?} answered {other:?}"),
+        }
+    }
+
+    fn value(&mut self, call: Call) -> i64 {
+        let Answer { refusal: 0, found: 0, value } = self.call(call) else {
+            panic!("{call:?} was refused");
+        };
+        value
+    }
+
+    fn refused(&mut self, call: Call, refusal: u32) {
+        assert_eq!(self.call(call), Answer { refusal, found: 0, value: 0 }, "{call:?}");
+    }
+
+    /// A new sampled axis without counts per turn.
+    fn start(&mut self, kind: u64, depth: u64) {
+        self.value(Call::Setup { axis: 0, kind, depth, width: 0, turn: 0 });
+    }
+
+    fn sample(&mut self, port: u64) -> Sampled {
+        match (self.side)(&Call::Sample { port }, &mut self.memory) {
+            Outcome::Sampled(sampled) => sampled,
+            other => panic!("a sample answered {other:?}"),
+        }
+    }
+
+    fn samples(&mut self, ports: &[u64]) {
+        for &port in ports {
+            self.sample(port);
+        }
+    }
+
+    fn view(&mut self) -> View {
+        match (self.side)(&Call::Look { axis: 0 }, &mut self.memory) {
+            Outcome::View(view) => view,
+            other => panic!("a view answered {other:?}"),
+        }
+    }
+
+    fn position(&mut self) -> i64 {
+        self.view().position
+    }
+}
+
+/// Asserts every reading of the side that answers.
+pub fn readings(side: &mut dyn FnMut(&Call, &mut Memory) -> Outcome) {
+    let bench = &mut Bench { memory: Memory::new(4, || 0), side };
+    counting(bench);
+    filtering(bench);
+    widening(bench);
+    holding(bench);
+    speeds(bench);
+    setting_up(bench);
+    saving(bench);
+}
+
+fn counting(bench: &mut Bench) {
+    for (kind, position) in [(4, 4), (2, 2), (1, 1)] {
+        bench.start(kind, 1);
+        bench.samples(&[0, 1, 3, 2, 0]);
+        assert_eq!(bench.position(), position, "one round of codes, kind {kind}");
+    }
+    bench.start(4, 1);
+    let doubles = [0, 3, 2].map(|code| bench.sample(code).doubles);
+    assert_eq!(doubles, [0, 1, 0]);
+    assert_eq!((bench.view().doubles, bench.position()), (1, 1), "codes 0, 3, 2");
+}
+
+fn filtering(bench: &mut Bench) {
+    let filtered_a = |bench: &Bench| bench.memory.table()[1] >> 19 & 1;
+    bench.start(4, 3);
+    bench.samples(&[0, 1, 1, 0, 1, 1]);
+    assert_eq!((filtered_a(bench), bench.position()), (0, 0), "depth 3, six samples");
+    bench.samples(&[1]);
+    assert_eq!((filtered_a(bench), bench.position()), (1, 1), "depth 3, seven samples");
+}
+
+fn widening(bench: &mut Bench) {
+    let widen = |position, reading| Call::Widen { width: 8, position, reading };
+    for (position, reading, wide) in [(250, 3, 259), (250, 121, 377), (250, 123, 123), (-1, 0, 0)] {
+        assert_eq!(bench.value(widen(position, reading)), wide, "{position}, reading {reading}");
+        // The same on a counter's row, which keeps the answer.
+        bench.value(Call::Setup { axis: 0, kind: 8, depth: 0, width: 8, turn: 0 });
+        bench.value(Call::Preset { axis: 0, position });
+        assert_eq!(bench.value(Call::Reading { axis: 0, reading }), wide, "{position}, reading {reading}");
+        assert_eq!(bench.position(), wide);
+    }
+    bench.value(Call::Preset { axis: 0, position: 250 });
+    for (reading, refusal) in [(122, HALF), (256, VALUE)] {
+        bench.refused(widen(250, reading), refusal);
+        bench.refused(Call::Reading { axis: 0, reading }, refusal);
+        assert_eq!(bench.position(), 250);
+    }
+}
+
+fn holding(bench: &mut Bench) {
+    bench.start(4, 1);
+    bench.value(Call::Preset { axis: 0, position: TOP });
+    bench.samples(&[0, 1]);
+    assert_eq!((bench.position(), bench.view().range), (TOP, 1));
+    bench.samples(&[0]);
+    assert_eq!((bench.position(), bench.view().range), (TOP - 1, 1));
+}
+
+fn speeds(bench: &mut Bench) {
+    for (difference, samples, speed) in [(1, 3, 333), (-1, 2000, -1), (1, 2001, 0)] {
+        assert_eq!(bench.value(Call::SpeedByCount { difference, samples, rate: 1 }), speed);
+    }
+    bench.refused(Call::SpeedByCount { difference: 1, samples: 0, rate: 1 }, VALUE);
+
+    bench.start(4, 1);
+    bench.samples(&[0]);
+    for code in [1, 3, 2] {
+        bench.samples(&[code; 5]);
+    }
+    bench.samples(&[0]);
+    let speed = Call::SpeedByPeriod { axis: 0, rate: 1000 };
+    assert_eq!(bench.value(speed), 200_000);
+    bench.samples(&[0; 12]);
+    assert_eq!(bench.value(speed), 83_333);
+}
+
+fn setting_up(bench: &mut Bench) {
+    let setup = |depth| Call::Setup { axis: 0, kind: 4, depth, width: 0, turn: 4096 };
+    bench.value(setup(3));
+    assert_eq!(bench.memory.table(), [1 << 62, 52, 0, 4096]);
+    bench.refused(setup(9), VALUE);
+    assert_eq!(bench.memory.table(), [1 << 62, 52, 0, 4096]);
+}
+
+fn saving(bench: &mut Bench) {
+    let record = [
+        0x01, 0x00, 0x02, 0x00, 0x01, 0x02, 0x00, 0x01, 0x04, 0x03, 0x00, 0x08, 0xff, 0xff, 0xff, 0xff, 0xff, 0xff,
+        0xff, 0xfe, 0x04, 0x00, 0x01, 0x03, 0x06, 0x00, 0x04, 0x00, 0x00, 0x10, 0x00, 0x7f, 0x00, 0x00,
+    ];
+    bench.value(Call::Setup { axis: 0, kind: 4, depth: 3, width: 0, turn: 4096 });
+    bench.value(Call::Preset { axis: 0, position: -2 });
+    bench.memory.lend(&[0x55; 33]);
+    bench.refused(Call::Save { axis: 0 }, ROOM);
+    assert_eq!(bench.memory.bytes(), [0x55; 33]);
+    bench.memory.lend(&[0x55; 34]);
+    assert_eq!(bench.value(Call::Save { axis: 0 }), 34);
+    assert_eq!(bench.memory.bytes(), record);
+}

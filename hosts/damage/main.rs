@@ -1,0 +1,267 @@
+// Damaged records, judged twice: by the proved record test through the C ABI, and by an independent reading of document 01, "The saved
+// record". Prints one line of counts and `no difference`, or the first slice on which the two differ, and then exits with 1.
+use std::collections::BTreeSet;
+use std::process::exit;
+
+const SEED: u64 = 0x1d0c_5eed;
+const RANDOM_PER_RECORD: usize = 3000;
+
+const VALUE: u32 = 6;
+const LAYOUT: u32 = 11;
+const RECORD: u32 = 12;
+
+#[repr(C)]
+struct Tested {
+    refusal: u32,
+    found: u32,
+    value: i64,
+}
+
+extern "C" {
+    fn ubrenchip_test_record(slice: *const u8, length: usize) -> Tested;
+}
+
+// A refusal's number, 0 for none, and the layout number found.
+#[derive(PartialEq, Clone, Copy, Debug)]
+struct Answer {
+    refusal: u32,
+    found: u32,
+}
+
+fn proved(slice: &[u8]) -> Answer {
+    // The slice is alive during the call, which only reads it.
+    let r = unsafe { ubrenchip_test_record(slice.as_ptr(), slice.len()) };
+    assert_eq!(r.value, 0, "a record test has no value");
+    Answer {
+        refusal: r.refusal,
+        found: r.found,
+    }
+}
+
+fn no(refusal: u32) -> Answer {
+    Answer { refusal, found: 0 }
+}
+
+// The independent reading: the shape of a record as a table of tags and lengths.
+fn judged(slice: &[u8]) -> Answer {
+    if slice.len() >= 5 && slice[..3] == [1, 0, 2] {
+        let number = u16::from_be_bytes([slice[3], slice[4]]);
+        if number != 1 {
+            return Answer {
+                refusal: LAYOUT,
+                found: number.into(),
+            };
+        }
+    }
+    if slice.len() < 9 || slice[..3] != [1, 0, 2] || slice[5..8] != [2, 0, 1] {
+        return no(RECORD);
+    }
+    let sampled: &[(u8, u8)] = &[(3, 8), (4, 1), (6, 4), (0x7f, 0)];
+    let counter: &[(u8, u8)] = &[(3, 8), (5, 1), (0x7f, 0)];
+    let (shape, limits) = match slice[8] {
+        1 | 2 | 4 => (sampled, 1..=8),
+        8 => (counter, 2..=32),
+        _ => return no(VALUE),
+    };
+    let mut rest = &slice[9..];
+    let mut values = Vec::new();
+    for &(tag, length) in shape {
+        let end = 3 + usize::from(length);
+        if rest.len() < end || rest[..3] != [tag, 0, length] {
+            return no(RECORD);
+        }
+        values.push(&rest[3..end]);
+        rest = &rest[end..];
+    }
+    if !rest.is_empty() {
+        return no(RECORD);
+    }
+    let position = i64::from_be_bytes(values[0].try_into().unwrap());
+    if position.unsigned_abs() >= 1 << 62 || !limits.contains(&values[1][0]) {
+        return no(VALUE);
+    }
+    no(0)
+}
+
+fn field(tag: u8, value: &[u8]) -> Vec<u8> {
+    [&[tag, 0, value.len() as u8], value].concat()
+}
+
+fn sampled(kind: u8, position: i64, depth: u8, turn: u32) -> Vec<u8> {
+    [
+        field(1, &[0, 1]),
+        field(2, &[kind]),
+        field(3, &position.to_be_bytes()),
+        field(4, &[depth]),
+        field(6, &turn.to_be_bytes()),
+        field(0x7f, &[]),
+    ]
+    .concat()
+}
+
+fn counter(position: i64, width: u8) -> Vec<u8> {
+    [
+        field(1, &[0, 1]),
+        field(2, &[8]),
+        field(3, &position.to_be_bytes()),
+        field(5, &[width]),
+        field(0x7f, &[]),
+    ]
+    .concat()
+}
+
+// Records within the limits, of every kind, with the limits themselves among them.
+fn good_records() -> Vec<Vec<u8>> {
+    let most = (1i64 << 62) - 1;
+    let mut records = Vec::new();
+    for position in [0, -2, most, -most] {
+        for kind in [1, 2, 4] {
+            for depth in [1, 3, 8] {
+                for turn in [0, 4096, u32::MAX] {
+                    records.push(sampled(kind, position, depth, turn));
+                }
+            }
+        }
+        for width in [2, 8, 32] {
+            records.push(counter(position, width));
+        }
+    }
+    records
+}
+
+// Right shapes around values just past their limits.
+fn past_limits() -> Vec<Vec<u8>> {
+    let past = 1i64 << 62;
+    let mut records = Vec::new();
+    for position in [past, -past, past + 1, i64::MIN, i64::MAX] {
+        records.push(sampled(4, position, 3, 4096));
+        records.push(counter(position, 8));
+    }
+    for depth in [0, 9, 255] {
+        records.push(sampled(1, 5, depth, 1));
+    }
+    for width in [0, 1, 33, 255] {
+        records.push(counter(5, width));
+    }
+    for kind in [0, 3, 5, 6, 7, 8, 9, 16, 255] {
+        records.push(sampled(kind, 5, 3, 1));
+    }
+    records
+}
+
+// The upper bits of a linear congruence: the same numbers on every machine.
+struct Random(u64);
+
+impl Random {
+    fn below(&mut self, n: usize) -> usize {
+        self.0 = self
+            .0
+            .wrapping_mul(6364136223846793005)
+            .wrapping_add(1442695040888963407);
+        (self.0 >> 33) as usize % n
+    }
+}
+
+fn changed(record: &[u8], slices: &mut BTreeSet<Vec<u8>>) {
+    for at in 0..record.len() {
+        let old = record[at];
+        let values = [
+            0,
+            1,
+            2,
+            3,
+            4,
+            5,
+            6,
+            7,
+            8,
+            9,
+            16,
+            32,
+            33,
+            0x3f,
+            0x40,
+            0x7e,
+            0x7f,
+            0x80,
+            0xbf,
+            0xc0,
+            0xff,
+            old ^ 1,
+            old ^ 0x80,
+            old.wrapping_add(1),
+            old.wrapping_sub(1),
+        ];
+        for value in values {
+            let mut slice = record.to_vec();
+            slice[at] = value;
+            slices.insert(slice);
+        }
+    }
+}
+
+fn resized(record: &[u8], slices: &mut BTreeSet<Vec<u8>>) {
+    for length in 0..record.len() {
+        slices.insert(record[..length].to_vec());
+        slices.insert(record[length..].to_vec());
+    }
+    for at in 0..=record.len() {
+        for value in [0, 1, 2, 8, 0x7f, 0xff] {
+            let mut slice = record.to_vec();
+            slice.insert(at, value);
+            slices.insert(slice);
+        }
+    }
+    slices.insert([record, record].concat());
+}
+
+fn at_random(record: &[u8], random: &mut Random, slices: &mut BTreeSet<Vec<u8>>) {
+    for _ in 0..RANDOM_PER_RECORD {
+        let mut slice = record.to_vec();
+        for _ in 0..2 + random.below(3) {
+            let at = random.below(slice.len());
+            // Half of the new bytes are small, as tags, lengths, kinds and most values are.
+            slice[at] = if random.below(2) == 0 {
+                random.below(10) as u8
+            } else {
+                random.below(256) as u8
+            };
+        }
+        match random.below(8) {
+            0 => slice.truncate(random.below(slice.len())),
+            1 => slice.push(random.below(256) as u8),
+            _ => {}
+        }
+        slices.insert(slice);
+    }
+}
+
+fn main() {
+    let mut slices = BTreeSet::new();
+    let mut random = Random(SEED);
+    for record in good_records().into_iter().chain(past_limits()) {
+        changed(&record, &mut slices);
+        resized(&record, &mut slices);
+        at_random(&record, &mut random, &mut slices);
+        slices.insert(record);
+    }
+    let (mut accepted, mut layout, mut misshapen, mut value) = (0, 0, 0, 0);
+    for slice in &slices {
+        let (ours, theirs) = (proved(slice), judged(slice));
+        if ours != theirs {
+            println!("damage: a difference at the slice {slice:02x?}, seed {SEED:#x}: proved {ours:?}, read from the paper {theirs:?}");
+            exit(1);
+        }
+        match theirs.refusal {
+            0 => accepted += 1,
+            VALUE => value += 1,
+            LAYOUT => layout += 1,
+            _ => misshapen += 1,
+        }
+    }
+    println!("damage: {} slices, {accepted} accepted, {layout} LAYOUT, {misshapen} RECORD, {value} VALUE, no difference", slices.len());
+    if [accepted, layout, misshapen, value].contains(&0) {
+        println!("damage: one of the answers was never given");
+        exit(1);
+    }
+}
