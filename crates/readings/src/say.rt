@@ -4,8 +4,8 @@ use calls::answer::Viewed;
 use libc::STDOUT_FILENO;
 use reckon::Reckoned;
 use record::answer::Written;
-use record::twos::bits_of;
 use refusal::Refusal;
+use tracing::text::size;
 
 fn text(bytes: &[u8]) {
     io::write_all(STDOUT_FILENO, bytes);
@@ -15,10 +15,8 @@ fn text(bytes: &[u8]) {
 fn number(n: i64) {
     if n < 0 {
         text(b"-");
-        io::print_decimal(STDOUT_FILENO, std::num::wrapping_sub_u64(0, bits_of(n)));
-    } else {
-        io::print_decimal(STDOUT_FILENO, bits_of(n));
     }
+    io::print_decimal(STDOUT_FILENO, size(n));
 }
 
 // The name of a reason.

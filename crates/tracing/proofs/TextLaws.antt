@@ -6,16 +6,16 @@ use mathlib.Core.Path.{_≡_, refl, sym, ap, subst, _∙_}
 use mathlib.Core.Bool.{true, false}
 use mathlib.Core.List.{List, [], _∷_, _++_}
 use lib.Dec.{T}
-use lib.IntN.{ℤ, pos, negsuc, natAbs}
+use lib.IntN.{ℤ, pos, negsuc, natAbs, _-ℤ_}
 use lib.Signed.{ltZ}
 use lib.ListN.{length, take, getD, set, length-append}
 use lib.Seq.{sets, take-suc, length-take-le}
 use borrow.Author.Tests.{ltb-true}
 use mir.Syntax.{w64}
-use mir.Val.{SFits, ofZ}
-use Rattle.integers.specs.Integer.{plus}
-use Rattle.integers.proofs.Balance.{abs-is, ltZ-true, ltZ-false}
-use Rattle.integers.proofs.Machine.{i64-fits, no-pos, abs-nonneg, bits-neg, bits-pos}
+use mir.Val.{SFits}
+use Rattle.integers.specs.Integer.{plus, minus}
+use Rattle.integers.proofs.Balance.{abs-is, bal-sub, ltZ-true}
+use Rattle.integers.proofs.Machine.{i64-fits, fits-size, no-neg, no-pos, abs-nonneg}
 use Rattle.record.proofs.StoreLaws.{sets-then}
 use Rattle.tracing.specs.Text.{FEED, MINUS, ZERO, SAMPLES, POSITION, DOUBLES, decimal, numeral, lineOf, textOf, Puts}
 use Rattle.tracing.specs.declared.report.Report.{Report}
@@ -86,17 +86,28 @@ position-below z e = rw (numeral-below z e)
 pub position-above : (z : ℤ) → ltZ z (pos 0) ≡ false → lineOf POSITION (numeral z) ≡ lineOf POSITION (decimal (natAbs z))
 position-above z e = ap (lineOf POSITION) (numeral-above z e)
 
--- The size of a number below zero, by its bits.
-pub size-below : (z : ℤ) → SFits w64 z → ltZ z (pos 0) ≡ true → (2 ^ 64 - 1 - ofZ w64 z + 1 ≡ natAbs z) × (natAbs z < 2 ^ 64)
-size-below z f h =
-    let b = ltZ-true z (pos 0) h in
-    let n : plus z ≡ 0 = no-pos z (omega arith) in
-    let bits = bits-neg z (omega arith) in
-    (omega (arith, abs-is z, i64-fits f), omega (arith, abs-is z, i64-fits f))
+-- A number z below zero: -1 - z is one short of its size, and the machine holds both.
+module _ (z : ℤ) (f : SFits w64 z) (h : ltZ z (pos 0) ≡ true) where
+  abbrev pub short : ℤ
+  short = negsuc 0 -ℤ z
 
--- The bits of any other number are its size.
-pub size-above : (z : ℤ) → ltZ z (pos 0) ≡ false → ofZ w64 z ≡ natAbs z
-size-above z h = let b = ltZ-false z (pos 0) h in bits-pos z (omega arith) ∙ sym (abs-nonneg z (omega arith))
+  below : plus z < minus z
+  below = omega (arith, ltZ-true z (pos 0) h)
+
+  pub short-above : minus short ≤ plus short
+  short-above = omega (arith, below, bal-sub (negsuc 0) z)
+
+  short-is : plus short + 1 ≡ minus z
+  short-is = omega (arith, no-neg short short-above, no-pos z (omega (arith, below)), bal-sub (negsuc 0) z)
+
+  pub short-fits : SFits w64 short
+  short-fits = fits-size short (omega (arith, short-is, no-neg short short-above, i64-fits f))
+
+  pub size-is : natAbs short + 1 ≡ natAbs z
+  size-is = omega (arith, short-is, abs-nonneg short short-above, abs-is z, no-pos z (omega (arith, below)))
+
+  pub size-fits : natAbs short + 1 < 2 ^ 64
+  size-fits = omega (arith, short-is, abs-nonneg short short-above, i64-fits f)
 
 -- ---- the room of a report
 

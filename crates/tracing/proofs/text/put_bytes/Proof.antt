@@ -4,8 +4,8 @@ use native.Mathlib.Omega.{arith}
 use lib.ListN.{length, take, length-set}
 use lib.Seq.{sets, take-all}
 use Rattle.tracing.proofs.TextLaws.{sets-next}
-use Rattle.tracing.proofs.report.put_bytes.Statement.{statement}
-use Rattle.tracing.proofs.report.put_bytes.Tie as tie
+use Rattle.tracing.proofs.text.put_bytes.Statement.{statement}
+use Rattle.tracing.proofs.text.put_bytes.Tie as tie
 
 abbrev Inv-loop : tie.InvT-loop
 Inv-loop out₀ at bytes i₀ out i = (i ≤ length bytes) × (length out ≡ length out₀) × (out ≡ sets out₀ at (take i bytes))

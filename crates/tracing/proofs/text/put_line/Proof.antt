@@ -2,8 +2,8 @@ use native.Mathlib.Omega.{arith}
 use Rattle.tracing.specs.Text.{decimal}
 use Rattle.tracing.proofs.TextLaws.{line-length, puts-line}
 use borrow.Author.Needs.{needs}
-use Rattle.tracing.proofs.report.put_line.Statement.{statement}
-use Rattle.tracing.proofs.report.put_line.Tie as tie
+use Rattle.tracing.proofs.text.put_line.Statement.{statement}
+use Rattle.tracing.proofs.text.put_line.Tie as tie
 
 put-bytes-requires : tie.Need-put-bytes-requires
 put-bytes-requires c κs = let a = c .before .before .before .args in omega (arith, line-length (a .label .now) (decimal (a .n)))

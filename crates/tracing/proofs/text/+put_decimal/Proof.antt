@@ -5,13 +5,13 @@ use Rattle.tracing.proofs.TextLaws.{puts-one, puts-more, tenth-fits, di
 use Prim.Native.Nat.{ℕ, _<_}
 use borrow.Fn.Kinds.{In}
 use borrow.Fn.PlainCycle.{Measures, is, falls, and}
-use Rattle.tracing.proofs.report.put_decimal.Reads as put-decimal
-use Rattle.tracing.proofs.report.put_decimal.Kinds as put-decimal-kinds
-use Rattle.tracing.proofs.report.+put_decimal.Lts-put_decimal as put-decimal-lts
-use Rattle.tracing.proofs.report.digit.Reads as digit-reads
-use Rattle.tracing.proofs.report.put_byte.Reads as put-byte-reads
-use Rattle.tracing.proofs.report.+put_decimal.{statement}
-use Rattle.tracing.proofs.report.+put_decimal.Tie.{close}
+use Rattle.tracing.proofs.text.put_decimal.Reads as put-decimal
+use Rattle.tracing.proofs.text.put_decimal.Kinds as put-decimal-kinds
+use Rattle.tracing.proofs.text.+put_decimal.Lts-put_decimal as put-decimal-lts
+use Rattle.tracing.proofs.text.digit.Reads as digit-reads
+use Rattle.tracing.proofs.text.put_byte.Reads as put-byte-reads
+use Rattle.tracing.proofs.text.+put_decimal.{statement}
+use Rattle.tracing.proofs.text.+put_decimal.Tie.{close}
 
 abbrev μ-put-decimal : Measures 1 put-decimal-kinds.ps ℕ
 μ-put-decimal κs a = a .1 .1 .0
