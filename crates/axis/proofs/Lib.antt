@@ -1,3 +1,3 @@
-pub mod RowLaws
 pub mod TestLaws
-pub mod SoundLaws
+pub mod ConfigLaws
+pub mod RowLaws

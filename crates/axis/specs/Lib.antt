@@ -1,4 +1,3 @@
 pub mod Kind
 pub mod Config
 pub mod Row
-pub mod Sound

@@ -1,7 +1,6 @@
-// One axis by value: its kind, its configuration, the row of four words that holds it, and which rows are sound.
+// One axis by value: its kind, its configuration, and the row of four words that holds it.
 pub mod kind; // kind.rt: the kinds and their numbers
 pub mod config; // config.rt: what an axis is set up as, and its limits
 pub mod row; // row.rt: the four words, the axis that they hold, the erased axis and the one that is set up
 pub mod unpack; // unpack.rt: from a row to its axis
 pub mod pack; // pack.rt: from an axis to its row
-pub mod sound; // sound.rt: which rows are sound

@@ -14,13 +14,13 @@ use Rattle.refusal.specs.declared.Refusal.the-variants.{Kind as KIND, Value as 
 use Rattle.reckon.specs.declared.Reckoned.{Reckoned}
 use Rattle.reckon.specs.declared.Reckoned.the-variants.{Number, Refused as Unreckoned}
 use Rattle.axis.specs.Row.{axisOf, rowOf, freshAt}
-use Rattle.axis.specs.Sound.{statusOf, SampledAxis, CounterAxis, counterOf}
+use Rattle.sound.specs.Sound.{statusOf, SampledAxis, CounterAxis, counterOf}
 use Rattle.axis.specs.declared.row.Axis.{Axis}
 use Rattle.axis.specs.declared.row.Row.{Row}
-use Rattle.axis.specs.declared.sound.Status.{Status}
-use Rattle.axis.specs.declared.sound.Status.the-variants.{Sampled, Counter}
+use Rattle.sound.specs.declared.Status.{Status}
+use Rattle.sound.specs.declared.Status.the-variants.{Sampled, Counter}
 use Rattle.axis.proofs.RowLaws.{comes-back, held-words}
-use Rattle.axis.proofs.SoundLaws.{sampled-held, sampled-gives, sampled-from, counter-held, counter-gives, counter-from}
+use Rattle.sound.proofs.SoundLaws.{sampled-held, sampled-gives, sampled-from, counter-held, counter-gives, counter-from}
 use Rattle.calls.specs.Change.{changed, presetAxis, armAxis, acknowledgeAxis, readAxis, Holds}
 use Rattle.calls.specs.Calls.{byStatus, placeRow, presetRow, armRow, acknowledgeRow, readingRow, storedRow, readRow}
 use Rattle.calls.specs.declared.answer.Changed.the-variants.{To, Kept}

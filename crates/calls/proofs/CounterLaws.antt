@@ -11,11 +11,11 @@ use Rattle.reckon.specs.Widening.{goodWidth}
 use Rattle.reckon.specs.declared.Reckoned.the-variants.{Number}
 use Rattle.reckon.proofs.NearestLaws.{true-position}
 use Rattle.axis.specs.Row.{axisOf, freshAt}
-use Rattle.axis.specs.Sound.{statusOf, CounterAxis, counterOf}
+use Rattle.sound.specs.Sound.{statusOf, CounterAxis, counterOf}
 use Rattle.axis.specs.declared.row.Axis.{Axis}
 use Rattle.axis.specs.declared.row.Row.{Row}
-use Rattle.axis.specs.declared.sound.Status.the-variants.{Counter}
-use Rattle.axis.proofs.SoundLaws.{counter-gives}
+use Rattle.sound.specs.declared.Status.the-variants.{Counter}
+use Rattle.sound.proofs.SoundLaws.{counter-gives}
 use Rattle.calls.specs.Change.{readAxis}
 use Rattle.calls.specs.Calls.{readingOf, readingRow, storedRow, readRow, leftBy}
 use Rattle.calls.specs.Counter.{newest, shown, rowRead, Gentle, still, moved, At}

@@ -20,12 +20,12 @@ use Rattle.reckon.specs.Speed.{goodCount, goodSamples, goodRate, speedByCount}
 use Rattle.reckon.specs.declared.Reckoned.the-variants.{Refused as Unreckoned}
 use Rattle.reckon.proofs.NearestLaws.{verdict}
 use Rattle.axis.specs.Row.{axisOf, rowOf, freshAt}
-use Rattle.axis.specs.Sound.{statusOf, counterOf}
+use Rattle.sound.specs.Sound.{statusOf, counterOf}
 use Rattle.axis.specs.declared.row.Axis.{Axis}
 use Rattle.axis.specs.declared.row.Row.{Row}
-use Rattle.axis.specs.declared.sound.Status.{Status}
-use Rattle.axis.specs.declared.sound.Status.the-variants.{Empty, Sampled, Counter, Broken}
-use Rattle.axis.proofs.SoundLaws.{counter-gives}
+use Rattle.sound.specs.declared.Status.{Status}
+use Rattle.sound.specs.declared.Status.the-variants.{Empty, Sampled, Counter, Broken}
+use Rattle.sound.proofs.SoundLaws.{counter-gives}
 use Rattle.record.specs.Answer.{writtenNumber}
 use Rattle.record.specs.Record.{within, recordOf, savedAs}
 use Rattle.record.specs.declared.answer.Saved.{Saved}

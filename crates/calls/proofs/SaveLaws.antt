@@ -17,13 +17,14 @@ use Rattle.refusal.specs.declared.Refusal.the-variants.{Room as ROOM}
 use Rattle.axis.specs.Kind.{sampledKind}
 use Rattle.axis.specs.Config.{sampledConfig, counterConfig, goodConfig}
 use Rattle.axis.specs.Row.{axisOf, rowOf, fresh, freshAt, Words}
-use Rattle.axis.specs.Sound.{statusOf}
+use Rattle.sound.specs.Sound.{statusOf}
 use Rattle.axis.specs.declared.row.Axis.{Axis}
 use Rattle.axis.specs.declared.row.Row.{Row}
-use Rattle.axis.specs.declared.sound.Status.the-variants.{Sampled, Counter, Broken}
-use Rattle.axis.proofs.TestLaws.{both, either, sampled-config}
-use Rattle.axis.proofs.SoundLaws.{sampled-gives, counter-gives, counter-config, packed-again}
-use Rattle.record.specs.Bytes.{AllBytes}
+use Rattle.sound.specs.declared.Status.the-variants.{Sampled, Counter, Broken}
+use Rattle.axis.proofs.TestLaws.{both, either}
+use Rattle.sound.proofs.PassLaws.{sampled-config}
+use Rattle.sound.proofs.SoundLaws.{sampled-gives, counter-gives, counter-config, packed-again}
+use Rattle.tagged.specs.Bytes.{AllBytes}
 use Rattle.record.specs.Record.{within, readAs, recordOf, savedAs, written}
 use Rattle.record.specs.declared.answer.Saved.{Saved}
 use Rattle.record.specs.declared.answer.Read.{Read}

@@ -12,10 +12,10 @@ use Rattle.axis.specs.Config.{goodConfig}
 use Rattle.axis.specs.Row.{rowOf, emptyRow, fresh, freshAt, blank}
 use Rattle.axis.specs.declared.config.Config.{Config}
 use Rattle.axis.specs.declared.row.Row.{Row}
-use Rattle.axis.specs.declared.sound.Status.the-variants.{Empty, Sampled, Counter}
-use Rattle.axis.proofs.TestLaws.{sampled-setting, counter-setting}
+use Rattle.sound.specs.declared.Status.the-variants.{Empty, Sampled, Counter}
+use Rattle.axis.proofs.ConfigLaws.{sampled-setting, counter-setting}
 use Rattle.axis.proofs.RowLaws.{comes-back, held-words}
-use Rattle.axis.proofs.SoundLaws.{good-cases, setup-held, setup-sound, erase-sound}
+use Rattle.sound.proofs.SoundLaws.{good-cases, setup-held, setup-sound, erase-sound}
 use Rattle.calls.specs.Change.{Holds}
 use Rattle.calls.specs.Calls.{configOf, setupRow, eraseRow}
 use Rattle.calls.specs.declared.answer.Changed.the-variants.{To, Kept}

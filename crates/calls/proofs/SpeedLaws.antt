@@ -14,11 +14,11 @@ use Rattle.reckon.specs.Speed.{goodCount, goodSamples, goodRate, speedByCount}
 use Rattle.reckon.specs.declared.Reckoned.the-variants.{Number, Refused}
 use Rattle.reckon.proofs.SpeedLaws.{good-speed, speed-near}
 use Rattle.axis.specs.Row.{axisOf}
-use Rattle.axis.specs.Sound.{statusOf, SampledAxis}
+use Rattle.sound.specs.Sound.{statusOf, SampledAxis}
 use Rattle.axis.specs.declared.row.Axis.{Axis}
 use Rattle.axis.specs.declared.row.Row.{Row}
-use Rattle.axis.specs.declared.sound.Status.the-variants.{Sampled}
-use Rattle.axis.proofs.SoundLaws.{sampled-gives}
+use Rattle.sound.specs.declared.Status.the-variants.{Sampled}
+use Rattle.sound.proofs.SoundLaws.{sampled-gives}
 use Rattle.calls.specs.Calls.{signOf, spanOf, speedOf, speedRow}
 use Rattle.calls.proofs.StatusLaws.{live, refused-not}
 

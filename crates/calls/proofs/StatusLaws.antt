@@ -15,13 +15,13 @@ use Rattle.refusal.specs.declared.Refusal.the-variants.{Broken as BROKEN, Empty
 use Rattle.reckon.specs.declared.Reckoned.the-variants.{Number, Refused}
 use Rattle.reckon.proofs.NearestLaws.{nearest}
 use Rattle.axis.specs.Row.{axisOf, Narrow}
-use Rattle.axis.specs.Sound.{statusOf}
+use Rattle.sound.specs.Sound.{statusOf}
 use Rattle.axis.specs.declared.row.Axis.{Axis}
 use Rattle.axis.specs.declared.row.Row.{Row}
-use Rattle.axis.specs.declared.sound.Status.{Status}
-use Rattle.axis.specs.declared.sound.Status.the-variants.{Empty, Sampled, Counter, Broken}
+use Rattle.sound.specs.declared.Status.{Status}
+use Rattle.sound.specs.declared.Status.the-variants.{Empty, Sampled, Counter, Broken}
 use Rattle.axis.proofs.RowLaws.{row-held}
-use Rattle.axis.proofs.SoundLaws.{sampled-gives, counter-gives}
+use Rattle.sound.proofs.SoundLaws.{sampled-gives, counter-gives}
 use Rattle.calls.specs.Change.{changed}
 use Rattle.calls.specs.Calls.{Positioned, byStatus, readingOf, readingRow}
 

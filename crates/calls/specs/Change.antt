@@ -5,10 +5,10 @@ use mathlib.Core.Bool.{Bool, true, false}
 use lib.IntN.{ℤ}
 use Rattle.position.specs.Position.{wordOf}
 use Rattle.axis.specs.Row.{axisOf, Words}
-use Rattle.axis.specs.Sound.{statusOf}
+use Rattle.sound.specs.Sound.{statusOf}
 use Rattle.axis.specs.declared.row.Axis.{Axis}
 use Rattle.axis.specs.declared.row.Row.{Row}
-use Rattle.axis.specs.declared.sound.Status.{Status}
+use Rattle.sound.specs.declared.Status.{Status}
 
 -- An axis with another word, other flags ARMED, HOMED, RANGE and INDEX, and other doubles; all else stays.
 unfoldable pub changed : Axis → ℕ → Bool → Bool → Bool → Bool → ℕ → Axis

@@ -7,9 +7,9 @@ use lib.IntN.{ℤ, natAbs, _-ℤ_}
 use Rattle.integers.specs.Integer.{modZ}
 use Rattle.position.specs.Position.{inRange, wordOf}
 use Rattle.axis.specs.Row.{axisOf, freshAt}
-use Rattle.axis.specs.Sound.{statusOf, counterOf}
+use Rattle.sound.specs.Sound.{statusOf, counterOf}
 use Rattle.axis.specs.declared.row.Row.{Row}
-use Rattle.axis.specs.declared.sound.Status.the-variants.{Counter}
+use Rattle.sound.specs.declared.Status.the-variants.{Counter}
 use Rattle.calls.specs.Calls.{readRow, leftBy}
 
 -- The newest position, or the one before them all.

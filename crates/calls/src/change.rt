@@ -4,8 +4,8 @@ ghost use Rattle.calls.specs.Calls.{Positioned, placeRow, presetRow, arm
 use crate::answer::Changed;
 use axis::pack::pack;
 use axis::row::Row;
-use axis::sound::Status;
-use axis::sound::classify;
+use sound::Status;
+use sound::classify;
 use axis::unpack::unpack;
 use refusal::Refusal;
 

@@ -6,8 +6,8 @@ ghost use Rattle.calls.specs.Calls.{Positioned, viewRow};
 use crate::answer::View;
 use crate::answer::Viewed;
 use axis::row::Row;
-use axis::sound::Status;
-use axis::sound::classify;
+use sound::Status;
+use sound::classify;
 use axis::unpack::unpack;
 use refusal::Refusal;
 

@@ -11,10 +11,10 @@ use Rattle.refusal.specs.declared.Refusal.the-variants.{Value, Room}
 use Rattle.fields.specs.Field.{bitOf}
 use Rattle.axis.specs.Kind.{counterKind}
 use Rattle.axis.specs.Row.{axisOf}
-use Rattle.axis.specs.Sound.{statusOf}
+use Rattle.sound.specs.Sound.{statusOf}
 use Rattle.axis.specs.declared.row.Row.{Row}
-use Rattle.axis.specs.declared.sound.Status.{Status}
-use Rattle.axis.specs.declared.sound.Status.the-variants.{Empty, Sampled as Lines, Counter, Broken}
+use Rattle.sound.specs.declared.Status.{Status}
+use Rattle.sound.specs.declared.Status.the-variants.{Empty, Sampled as Lines, Counter, Broken}
 use Rattle.record.specs.Answer.{writtenBytes}
 use Rattle.record.specs.Record.{within, recordOf, savedAs}
 use Rattle.record.specs.declared.answer.Saved.{Saved}
@@ -27,11 +27,11 @@ use Rattle.calls.specs.Calls.{byStatus, savedOf, saveRow}
 use Rattle.calls.specs.declared.answer.Done.{Done}
 use Rattle.calls.specs.declared.answer.Viewed.{Viewed}
 use Rattle.calls.proofs.AnswerLaws.{done-told, view-told}
-use Rattle.table.specs.Located.{located, onFound}
+use Rattle.rows.specs.Located.{located, onFound}
 use Rattle.table.specs.Call.{saveIn}
 use Rattle.table.specs.declared.port.Sampled.{Sampled}
-use Rattle.table.specs.declared.rows.Located.{Located}
-use Rattle.table.specs.declared.rows.Located.the-variants.{At, Refused}
+use Rattle.rows.specs.declared.Located.{Located}
+use Rattle.rows.specs.declared.Located.the-variants.{At, Refused}
 use Rattle.table.proofs.AnswerLaws.{sample-told}
 use Rattle.host.specs.declared.answer.Answer.{Answer}
 use Rattle.face.specs.Answer.{answerDone, answerWritten, answerSampled, answerView}

@@ -7,7 +7,7 @@ use Rattle.axis.specs.declared.row.Row.{Row}
 use Rattle.calls.specs.Answer.{doneOf}
 use Rattle.calls.specs.Calls.{readRow, savedIn}
 use Rattle.calls.specs.declared.answer.Changed.{Changed}
-use Rattle.table.specs.Located.{located, onFound}
+use Rattle.rows.specs.Located.{located, onFound}
 use Rattle.table.specs.Port.{sampledTable, sampledAnswer}
 use Rattle.table.specs.Call.{ruled, tableAfter, readIn, saveIn}
 use Rattle.host.specs.Answer.{answerTo}

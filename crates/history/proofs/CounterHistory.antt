@@ -10,12 +10,12 @@ use Rattle.reckon.specs.Widening.{widened}
 use Rattle.reckon.specs.declared.Reckoned.the-variants.{Number}
 use Rattle.axis.specs.Config.{goodConfig}
 use Rattle.axis.specs.Row.{axisOf, Words}
-use Rattle.axis.specs.Sound.{statusOf}
+use Rattle.sound.specs.Sound.{statusOf}
 use Rattle.axis.specs.declared.row.Axis.{Axis}
 use Rattle.axis.specs.declared.row.Row.{Row}
-use Rattle.axis.specs.declared.sound.Status.the-variants.{Counter}
-use Rattle.motion.specs.declared.step.SteppedRow.{SteppedRow}
-use Rattle.motion.proofs.RowLaws.{counter-stays}
+use Rattle.sound.specs.declared.Status.the-variants.{Counter}
+use Rattle.sample.specs.declared.step.SteppedRow.{SteppedRow}
+use Rattle.sample.proofs.RowLaws.{counter-stays}
 use Rattle.record.specs.Record.{readAs}
 use Rattle.record.specs.declared.answer.Saved.{Saved}
 use Rattle.record.specs.declared.answer.Read.the-variants.{Accepted}

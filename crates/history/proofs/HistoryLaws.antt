@@ -8,10 +8,10 @@ use Rattle.position.specs.Position.{positionOf}
 use Rattle.position.proofs.PositionLaws.{position-word}
 use Rattle.axis.specs.declared.row.Axis.{Axis}
 use Rattle.motion.specs.Lines.{Wire, line}
-use Rattle.motion.specs.Step.{stepAxis}
+use Rattle.sample.specs.Step.{stepAxis}
 use Rattle.motion.specs.declared.lines.Line.{Line}
 use Rattle.motion.specs.declared.lines.Raw.{Raw}
-use Rattle.motion.specs.declared.step.Stepped.{Stepped}
+use Rattle.sample.specs.declared.step.Stepped.{Stepped}
 use Rattle.history.specs.Acts.{Act, after, Legal}
 use Rattle.history.specs.Start.{Start}
 use Rattle.history.specs.Levels.{primedAt, levelAt, runAt, roseAt}

@@ -4,13 +4,13 @@ use lib.IntN.{ℤ}
 use Rattle.position.specs.Position.{wordOf}
 use Rattle.position.proofs.PositionLaws.{word-low, word-high}
 use Rattle.axis.specs.Row.{axisOf, rowOf, emptyRow, Words}
-use Rattle.axis.specs.Sound.{statusOf, CounterAxis}
+use Rattle.sound.specs.Sound.{statusOf, CounterAxis}
 use Rattle.axis.specs.declared.row.Axis.{Axis}
 use Rattle.axis.specs.declared.row.Row.{Row}
-use Rattle.axis.specs.declared.sound.Status.{Status}
-use Rattle.axis.specs.declared.sound.Status.the-variants.{Empty, Sampled, Counter, Broken}
-use Rattle.axis.proofs.SoundLaws.{sampled-gives, counter-gives}
-use Rattle.motion.specs.After.{Configured}
+use Rattle.sound.specs.declared.Status.{Status}
+use Rattle.sound.specs.declared.Status.the-variants.{Empty, Sampled, Counter, Broken}
+use Rattle.sound.proofs.SoundLaws.{sampled-gives, counter-gives}
+use Rattle.sample.specs.After.{Configured}
 use Rattle.calls.specs.Change.{changed, presetAxis, readAxis, Holds}
 use Rattle.calls.proofs.ChangeLaws.{sampled-holds, counter-holds, read-at, read-kept}
 use Rattle.calls.proofs.SetupLaws.{config-holds, erase-makes}

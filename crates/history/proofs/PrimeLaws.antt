@@ -5,7 +5,7 @@ use mathlib.Core.List.{List, [], _∷_}
 use Rattle.position.specs.Position.{wordOf}
 use Rattle.axis.specs.declared.row.Axis.{Axis}
 use Rattle.motion.specs.Lines.{A, B, Z, levelOf}
-use Rattle.motion.specs.Step.{primedBy, outcome}
+use Rattle.sample.specs.Step.{primedBy, outcome}
 use Rattle.motion.specs.declared.lines.Raw.{Raw}
 use Rattle.history.specs.Acts.{Act, sampled}
 use Rattle.history.specs.Levels.{primedAt, roseAt}

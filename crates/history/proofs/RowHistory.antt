@@ -3,14 +3,14 @@ use mathlib.Core.Path.{_≡_, refl, _∙_, ap}
 use mathlib.Core.List.{List, [], _∷_, _++_}
 use Prim.Native.Nat.{ℕ}
 use Rattle.axis.specs.Row.{axisOf, Words}
-use Rattle.axis.specs.Sound.{statusOf}
+use Rattle.sound.specs.Sound.{statusOf}
 use Rattle.axis.specs.declared.row.Axis.{Axis}
 use Rattle.axis.specs.declared.row.Row.{Row}
-use Rattle.axis.specs.declared.sound.Status.{Status}
-use Rattle.axis.specs.declared.sound.Status.the-variants.{Empty, Sampled, Counter, Broken}
+use Rattle.sound.specs.declared.Status.{Status}
+use Rattle.sound.specs.declared.Status.the-variants.{Empty, Sampled, Counter, Broken}
 use Rattle.motion.specs.Lines.{rawOf}
-use Rattle.motion.specs.Step.{stepAxis, packed, stepBy, stepRow}
-use Rattle.motion.specs.declared.step.Stepped.{Stepped}
+use Rattle.sample.specs.Step.{stepAxis, packed, stepBy, stepRow}
+use Rattle.sample.specs.declared.step.Stepped.{Stepped}
 use Rattle.calls.specs.Change.{readAxis, Holds}
 use Rattle.history.specs.Event.{Event, rowNext, rowSince}
 use Rattle.history.specs.Told.{told, answered}

@@ -1,9 +1,9 @@
 -- A sampled axis stays one through a history: document 01, "One row, four words".
 use mathlib.Core.Path.{subst}
 use mathlib.Core.List.{List, [], _∷_}
-use Rattle.axis.specs.Sound.{SampledAxis}
+use Rattle.sound.specs.Sound.{SampledAxis}
 use Rattle.axis.specs.declared.row.Axis.{Axis}
-use Rattle.motion.proofs.KeepLaws.{keep-step}
+use Rattle.sample.proofs.KeepLaws.{keep-step}
 use Rattle.calls.proofs.ChangeLaws.{preset-sampled, arm-sampled, acknowledge-sampled}
 use Rattle.history.specs.Acts.{Act, sampled, preset, arm, acknowledge, act, after, Accepted, Legal}
 use Rattle.history.specs.Told.{told}

@@ -9,7 +9,7 @@ use Rattle.motion.specs.Filter.{filtered}
 use Rattle.motion.specs.Decode.{moveTo, entry, isE}
 use Rattle.motion.specs.Index.{rises}
 use Rattle.motion.specs.Count.{countedWord}
-use Rattle.motion.specs.Step.{settle, outcome}
+use Rattle.sample.specs.Step.{settle, outcome}
 use Rattle.motion.specs.declared.decode.Move.{Move}
 use Rattle.motion.specs.declared.lines.Line.{Line}
 use Rattle.motion.specs.declared.lines.Raw.{Raw}

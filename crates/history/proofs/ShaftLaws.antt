@@ -16,7 +16,7 @@ use Rattle.axis.specs.Kind.{X4}
 use Rattle.axis.specs.declared.row.Axis.{Axis}
 use Rattle.motion.specs.Lines.{A, B, levelOf}
 use Rattle.motion.specs.Decode.{code, x4, tableOf, entryIn, entry, worth, isE}
-use Rattle.motion.specs.Step.{stepAxis}
+use Rattle.sample.specs.Step.{stepAxis}
 use Rattle.motion.specs.declared.decode.Move.{Move}
 use Rattle.motion.specs.declared.decode.Move.the-variants.{Still, Forward, Back, Double}
 use Rattle.history.specs.Acts.{Act, sampled, after, Legal}

@@ -8,12 +8,12 @@ use lib.IntN.{ℤ}
 use Rattle.position.specs.Position.{inRange, wordOf}
 use Rattle.position.proofs.PositionLaws.{word-low, word-high}
 use Rattle.axis.specs.Row.{axisOf, freshAt}
-use Rattle.axis.specs.Sound.{statusOf, SampledAxis}
+use Rattle.sound.specs.Sound.{statusOf, SampledAxis}
 use Rattle.axis.specs.declared.config.Config.{Config}
 use Rattle.axis.specs.declared.row.Axis.{Axis}
 use Rattle.axis.specs.declared.row.Row.{Row}
-use Rattle.axis.specs.declared.sound.Status.the-variants.{Sampled}
-use Rattle.axis.proofs.SoundLaws.{sampled-gives}
+use Rattle.sound.specs.declared.Status.the-variants.{Sampled}
+use Rattle.sound.proofs.SoundLaws.{sampled-gives}
 use Rattle.motion.specs.Lines.{Wire, A, B, Z, placeOf, line}
 use Rattle.history.specs.Acts.{Act, act, after, Legal}
 use Rattle.history.specs.Start.{Start}

@@ -10,9 +10,9 @@ use Rattle.position.specs.Position.{inRange}
 use Rattle.position.proofs.PositionLaws.{position-in-range, word-position}
 use Rattle.axis.specs.declared.row.Axis.{Axis}
 use Rattle.motion.specs.Lines.{A, B, Z, placeOf, line}
-use Rattle.motion.specs.Step.{outcome, stepAxis}
+use Rattle.sample.specs.Step.{outcome, stepAxis}
 use Rattle.motion.specs.declared.lines.Raw.{Raw}
-use Rattle.motion.specs.declared.step.Stepped.{Stepped}
+use Rattle.sample.specs.declared.step.Stepped.{Stepped}
 use Rattle.history.specs.Acts.{Act, sampled, preset, arm, acknowledge, act, after, Legal}
 use Rattle.calls.specs.Change.{changed}
 use Rattle.history.specs.Start.{Start}

@@ -6,7 +6,7 @@ use mathlib.Core.List.{List, [], _∷_}
 use lib.IntN.{ℤ}
 use Rattle.position.specs.Position.{inRange}
 use Rattle.axis.specs.declared.row.Axis.{Axis}
-use Rattle.motion.specs.Step.{stepAxis}
+use Rattle.sample.specs.Step.{stepAxis}
 use Rattle.calls.specs.Change.{presetAxis, armAxis, acknowledgeAxis}
 use Rattle.motion.specs.declared.lines.Raw.{Raw}
 

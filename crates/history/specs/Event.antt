@@ -7,7 +7,7 @@ use lib.ListN.{length}
 use Rattle.refusal.specs.declared.Refusal.{Refusal}
 use Rattle.reckon.specs.declared.Reckoned.the-variants.{Refused as Unreckoned}
 use Rattle.axis.specs.declared.row.Row.{Row}
-use Rattle.motion.specs.Step.{stepRow}
+use Rattle.sample.specs.Step.{stepRow}
 use Rattle.record.specs.declared.answer.Written.the-variants.{Refused as Unwritten}
 use Rattle.calls.specs.Calls.{leftBy, setupRow, eraseRow, presetRow, armRow, acknowledgeRow, viewRow, readingRow, readRow, speedRow, saveRow, restoreRow}
 use Rattle.calls.specs.declared.answer.Changed.the-variants.{Kept}

@@ -4,7 +4,7 @@ use Rattle.position.specs.Position.{wordOf}
 use Rattle.axis.specs.declared.row.Axis.{Axis}
 use Rattle.motion.specs.Lines.{A, B, Z}
 use Rattle.motion.specs.declared.lines.Raw.{Raw}
-use Rattle.motion.specs.declared.step.Stepped.{Stepped}
+use Rattle.sample.specs.declared.step.Stepped.{Stepped}
 use Rattle.history.specs.Acts.{Act, sampled}
 use Rattle.history.specs.Levels.{primedAt, levelAt, runAt, roseAt}
 use Rattle.history.specs.Entries.{entries, doubleAt}

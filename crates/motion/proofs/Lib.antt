@@ -5,6 +5,3 @@ pub mod TableLaws
 pub mod CountLaws
 pub mod PaceLaws
 pub mod IndexLaws
-pub mod StepLaws
-pub mod KeepLaws
-pub mod RowLaws

@@ -4,5 +4,3 @@ pub mod Decode
 pub mod Count
 pub mod Pace
 pub mod Index
-pub mod Step
-pub mod After

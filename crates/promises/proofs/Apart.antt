@@ -5,7 +5,7 @@ use Prim.Native.Nat.{ℕ, _<_}
 use lib.ListN.{length}
 use Rattle.axis.specs.declared.row.Row.{Row}
 use Rattle.history.specs.Event.{Event}
-use Rattle.table.specs.Table.{axesIn, rowAt}
+use Rattle.rows.specs.Table.{axesIn, rowAt}
 use Rattle.promises.specs.Runs.{Call, tableRun, heard, rows, events, rowRun, tolds, rowsFrom}
 use Rattle.promises.proofs.RunLaws.{alone}
 

@@ -7,9 +7,9 @@ use lib.IntN.{ℤ, _+ℤ_}
 use lib.ListN.{length}
 use Rattle.position.specs.Position.{positionOf}
 use Rattle.axis.specs.Row.{axisOf}
-use Rattle.axis.specs.Sound.{statusOf}
+use Rattle.sound.specs.Sound.{statusOf}
 use Rattle.axis.specs.declared.row.Row.{Row}
-use Rattle.axis.specs.declared.sound.Status.the-variants.{Sampled, Counter}
+use Rattle.sound.specs.declared.Status.the-variants.{Sampled, Counter}
 use Rattle.history.specs.Event.{Event, rowNext, rowSince}
 use Rattle.history.specs.Phase.{phaseOf, toldRow, startAxis, actsSince}
 use Rattle.history.specs.Entries.{numberOfE}
@@ -17,8 +17,8 @@ use Rattle.history.specs.Tally.{Tally, Place, placeTally, doublesTally, sum}
 use Rattle.history.proofs.RowHistory.{row-history}
 use Rattle.history.proofs.SampledHistory.{position-row, doubles-row}
 use Rattle.history.proofs.CounterHistory.{position-counter}
-use Rattle.table.specs.Table.{axesIn, rowAt, AllWords}
-use Rattle.table.proofs.TableLaws.{row-words}
+use Rattle.rows.specs.Table.{axesIn, rowAt, AllWords}
+use Rattle.rows.proofs.TableLaws.{row-words}
 use Rattle.promises.specs.Runs.{Call, tableRun, events, rowRun}
 use Rattle.promises.proofs.RunLaws.{alone}
 

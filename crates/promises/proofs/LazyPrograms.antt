@@ -8,13 +8,13 @@ use Prim.Native.Nat.{ℕ, _<_}
 use lib.ListN.{length}
 use Rattle.refusal.specs.declared.Refusal.{Refusal}
 use Rattle.axis.specs.Row.{axisOf}
-use Rattle.axis.specs.Sound.{statusOf}
+use Rattle.sound.specs.Sound.{statusOf}
 use Rattle.axis.specs.declared.row.Row.{Row}
-use Rattle.axis.specs.declared.sound.Status.the-variants.{Sampled}
+use Rattle.sound.specs.declared.Status.the-variants.{Sampled}
 use Rattle.motion.specs.Lines.{rawOf}
-use Rattle.motion.proofs.RowLaws.{axis-after}
-use Rattle.motion.proofs.StepLaws.{priming}
-use Rattle.table.specs.Table.{axesIn, rowAt}
+use Rattle.sample.proofs.RowLaws.{axis-after}
+use Rattle.sample.proofs.StepLaws.{priming}
+use Rattle.rows.specs.Table.{axesIn, rowAt}
 use Rattle.table.specs.Port.{nibble, sampledTable, sampledAnswer}
 use Rattle.table.specs.declared.port.Sampled.the-variants.{Refused}
 use Rattle.table.proofs.PortLaws.{sample-row, sample-refused}

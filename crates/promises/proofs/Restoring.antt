@@ -5,7 +5,7 @@ use Prim.Native.Nat.{ℕ, _≤_, _<_}
 use lib.ListN.{length, take, drop}
 use Rattle.axis.specs.Row.{axisOf, rowOf, freshAt}
 use Rattle.axis.specs.declared.row.Row.{Row}
-use Rattle.record.specs.Bytes.{AllBytes}
+use Rattle.tagged.specs.Bytes.{AllBytes}
 use Rattle.record.specs.Record.{readAs}
 use Rattle.record.specs.declared.answer.Saved.{Saved}
 use Rattle.record.specs.declared.answer.Read.the-variants.{Accepted}
@@ -14,7 +14,7 @@ use Rattle.calls.specs.Calls.{setupRow, presetRow, restoreRow, saveRow, savedIn
 use Rattle.calls.specs.declared.answer.Changed.{Changed}
 use Rattle.calls.specs.declared.answer.Changed.the-variants.{To}
 use Rattle.calls.proofs.SaveLaws.{restore-is, restored-save, saved-restore}
-use Rattle.table.specs.Table.{axesIn, rowAt}
+use Rattle.rows.specs.Table.{axesIn, rowAt}
 use Rattle.table.specs.Call.{ruled, tableAfter}
 use Rattle.promises.proofs.RunLaws.{ruled-is, by-rule}
 

@@ -8,8 +8,8 @@ use Rattle.refusal.specs.declared.Refusal.{Refusal}
 use Rattle.reckon.specs.declared.Reckoned.{Reckoned}
 use Rattle.fields.specs.Field.{flagOf}
 use Rattle.axis.specs.declared.row.Row.{Row}
-use Rattle.motion.specs.Step.{stepRow}
-use Rattle.motion.specs.declared.step.SteppedRow.{SteppedRow}
+use Rattle.sample.specs.Step.{stepRow}
+use Rattle.sample.specs.declared.step.SteppedRow.{SteppedRow}
 use Rattle.record.specs.declared.answer.Written.{Written}
 use Rattle.record.specs.declared.answer.Written.the-variants.{Bytes, Refused as Unwritten}
 use Rattle.calls.specs.Answer.{doneOf}
@@ -18,9 +18,9 @@ use Rattle.calls.specs.declared.answer.Done.{Done}
 use Rattle.calls.specs.declared.answer.Viewed.{Viewed}
 use Rattle.history.specs.Event.{Op, Event, setup, erase, preset, arm, acknowledge, view, reading, speed, save, restore, bits, asked, rowNext}
 use Rattle.history.specs.Phase.{Marks, marksOf}
-use Rattle.table.specs.Table.{axesIn, rowAt}
+use Rattle.rows.specs.Table.{axesIn, rowAt}
 use Rattle.table.specs.Port.{nibble, sampledTable, sampledAnswer}
-use Rattle.table.specs.Located.{located, onFound}
+use Rattle.rows.specs.Located.{located, onFound}
 use Rattle.table.specs.Call.{ruled, tableAfter, viewedIn, readIn, speedIn, saveIn}
 use Rattle.table.specs.declared.port.Masks.{Masks}
 use Rattle.table.specs.declared.port.Sampled.{Sampled}

@@ -1,6 +1,3 @@
-pub mod BytesLaws
-pub mod StoreLaws
-pub mod FieldLaws
 pub mod WriterLaws
 pub mod OrderLaws
 pub mod LimitsLaws

@@ -4,18 +4,19 @@ use mathlib.Core.Bool.{Bool, true, false, _&&_, _||_}
 use mathlib.Core.Logic.{_⊎_, inl, inr, ⊎-elim}
 use Prim.Native.Nat.{ℕ, _^_, _≤_, _<_}
 use native.Mathlib.Omega.{arith}
-use borrow.Author.Tests.{eqb-true, leb-true, ltb-true}
-use lib.Dec.{T, eqb, leb, ltb}
+use borrow.Author.Tests.{eqb-true, eq-eqb}
+use lib.Dec.{T, eqb}
 use mir.Syntax.{w64}
 use mir.Val.{SFits}
 use Rattle.integers.proofs.Machine.{fits-size}
 use Rattle.position.specs.Position.{inRange}
 use Rattle.position.proofs.PositionLaws.{range-is}
 use Rattle.axis.specs.declared.config.Config.{Config}
-use Rattle.axis.specs.Kind.{X1, X2, X4, sampledKind, counterKind}
+use Rattle.axis.specs.Kind.{X1, X2, X4, COUNTER, sampledKind, counterKind}
 use Rattle.axis.specs.Config.{sampledConfig, counterConfig, goodConfig}
 use Rattle.record.specs.declared.answer.Saved.{Saved}
 use Rattle.axis.proofs.TestLaws.{both as and-true}
+use Rattle.axis.proofs.ConfigLaws.{sampled-setting, counter-setting}
 use Rattle.record.specs.Record.{knownKind, within}
 
 -- ---- either of two tests
@@ -72,18 +73,10 @@ good-config c h = ⊎-elim first second (or-true (sampledConfig k d w t) (counte
     t = c .turn
 
     first : sampledConfig k d w t ≡ true → Good c
-    first g =
-        let e = and-true (sampledKind k && leb 1 d && leb d 8 && eqb w 0) (ltb t (2 ^ 32)) g in
-        let f = and-true (sampledKind k && leb 1 d && leb d 8) (eqb w 0) (e .0) in
-        let i = and-true (sampledKind k && leb 1 d) (leb d 8) (f .0) in
-        sampled (and-true (sampledKind k) (leb 1 d) (i .0) .0) (leb-true d 8 (i .1)) (eqb-true w 0 (f .1)) (ltb-true t (2 ^ 32) (e .1))
+    first g = let s = sampled-setting k d w t g in sampled (s .kind) (s .deep) (s .width) (s .turn)
 
     second : counterConfig k d w t ≡ true → Good c
-    second g =
-        let e = and-true (counterKind k && leb 2 w && leb w 32 && eqb d 0) (eqb t 0) g in
-        let f = and-true (counterKind k && leb 2 w && leb w 32) (eqb d 0) (e .0) in
-        let i = and-true (counterKind k && leb 2 w) (leb w 32) (f .0) in
-        counter (and-true (counterKind k) (leb 2 w) (i .0) .0) (leb-true w 32 (i .1)) (eqb-true d 0 (f .1)) (eqb-true t 0 (e .1))
+    second g = let s = counter-setting k d w t g in counter (eq-eqb k COUNTER (s .kind)) (s .wide) (s .depth) (s .turn)
 
 module _ (s : Saved) (h : within s ≡ true) where
   both : (goodConfig (s .config .kind) (s .config .depth) (s .config .width) (s .config .turn) ≡ true) × (inRange (s .position) ≡ true)

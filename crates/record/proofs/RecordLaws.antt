@@ -24,11 +24,12 @@ use Rattle.record.specs.declared.answer.Tested.{Tested}
 use Rattle.record.specs.declared.answer.Tested.the-variants.{Accepted as Passes, Refused as Fails}
 use Rattle.record.specs.declared.answer.Written.{Written}
 use Rattle.record.specs.declared.answer.Written.the-variants.{Refused as Unwritten}
-use Rattle.record.specs.Bytes.{AllBytes, numberIn, numberFrom, bytesOf, starts}
+use Rattle.tagged.specs.Bytes.{AllBytes, numberIn, numberFrom, bytesOf, starts}
 use Rattle.record.specs.Answer.{readNumber, readFound, testedOf, testedNumber, testedFound}
-use Rattle.record.specs.Record.{within, readAs, testedAs, opening, fieldBytes, headBytes, counterBytes, sampledBytes, recordOf, savedAs, written, Saves, Shaped, LAYOUT}
+use Rattle.record.specs.Record.{within, readAs, testedAs, opening, headBytes, counterBytes, sampledBytes, recordOf, savedAs, written, Saves, Shaped, LAYOUT}
+use Rattle.tagged.specs.Field.{fieldBytes}
 use Rattle.record.specs.Order.{otherLayout, layoutIn, Judged, other-layout, bad-nine, bad-kind, bad-rest, bad-value, all-good}
-use Rattle.record.proofs.BytesLaws.{number-back, starts-is}
+use Rattle.tagged.proofs.BytesLaws.{number-back, starts-is}
 use Rattle.record.proofs.OrderLaws.{exactly, passed}
 use Rattle.record.proofs.RoundTrip.{written-read, read-written}
 use Rattle.record.proofs.WriterLaws.{counter-long, sampled-long, counter-record, sampled-record}

@@ -16,10 +16,11 @@ use Rattle.axis.specs.Kind.{COUNTER, sampledKind, counterKind}
 use Rattle.axis.specs.declared.config.Config.{Config}
 use Rattle.record.specs.declared.answer.Saved.{Saved}
 use Rattle.record.specs.declared.answer.Read.the-variants.{Accepted}
-use Rattle.record.specs.Bytes.{AllBytes, numberAt, bytesOf, starts}
-use Rattle.record.specs.Record.{headAt, standsAt, knownKind, within, saying, readAs, opening, fieldBytes, headBytes, counterBytes, sampledBytes, recordOf, KIND, POSITION, DEPTH, WIDTH, TURN, END}
+use Rattle.tagged.specs.Bytes.{AllBytes, numberAt, bytesOf, starts}
+use Rattle.record.specs.Record.{knownKind, within, saying, readAs, opening, headBytes, counterBytes, sampledBytes, recordOf, KIND, POSITION, DEPTH, WIDTH, TURN, END}
+use Rattle.tagged.specs.Field.{headAt, standsAt, fieldBytes}
 use Rattle.record.specs.Order.{nineStand, kindIn, restStands, saidIn, all-good}
-use Rattle.record.proofs.BytesLaws.{bytes-drop, bytes-take, number-below, number-back, bytes-back, starts-is}
+use Rattle.tagged.proofs.BytesLaws.{bytes-drop, bytes-take, number-below, number-back, bytes-back, starts-is}
 use Rattle.axis.proofs.TestLaws.{both as and-true}
 use Rattle.record.proofs.LimitsLaws.{Sampled, sampled-kind, known-counter, Good, sampled, counter, within-config, within-position}
 use Rattle.record.proofs.OrderLaws.{exactly, passed}

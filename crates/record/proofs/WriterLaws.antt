@@ -12,8 +12,9 @@ use Rattle.refusal.specs.declared.Refusal.the-variants.{Value, Room}
 use Rattle.axis.specs.Kind.{counterKind}
 use Rattle.record.specs.declared.answer.Saved.{Saved}
 use Rattle.record.specs.declared.answer.Written.the-variants.{Bytes, Refused}
-use Rattle.record.specs.Bytes.{bytesOf}
-use Rattle.record.specs.Record.{within, fieldBytes, headBytes, counterBytes, sampledBytes, recordOf, savedAs, written, Saves}
+use Rattle.tagged.specs.Bytes.{bytesOf}
+use Rattle.record.specs.Record.{within, headBytes, counterBytes, sampledBytes, recordOf, savedAs, written, Saves}
+use Rattle.tagged.specs.Field.{fieldBytes}
 
 -- Which of the two records is written, and how long it is.
 module _ (s : Saved) where

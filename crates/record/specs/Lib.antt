@@ -1,4 +1,3 @@
-pub mod Bytes
 pub mod Answer
 pub mod Record
 pub mod Order

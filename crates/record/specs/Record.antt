@@ -4,7 +4,7 @@ use mathlib.Core.Bool.{Bool, cond, _&&_, _||_}
 use mathlib.Core.List.{List, [], _∷_, _++_}
 use Prim.Native.Nat.{ℕ, _+_}
 use lib.Dec.{eqb, leb}
-use lib.ListN.{length, take, getD}
+use lib.ListN.{length, take}
 use lib.Seq.{sets}
 use mir.Syntax.{w64}
 use mir.Val.{toZ, ofZ}
@@ -20,9 +20,10 @@ use Rattle.record.specs.declared.answer.Read.the-variants.{Accepted, Ref
 use Rattle.record.specs.declared.answer.Tested.{Tested}
 use Rattle.record.specs.declared.answer.Written.{Written}
 use Rattle.record.specs.declared.answer.Written.the-variants.{Bytes, Refused as Unwritten}
-use Rattle.record.specs.declared.field.Field.{Field}
-use Rattle.record.specs.declared.field.Field.the-variants.{Value as Of, Bad}
-use Rattle.record.specs.Bytes.{numberAt, bytesOf, starts}
+use Rattle.tagged.specs.declared.field.Field.{Field}
+use Rattle.tagged.specs.declared.field.Field.the-variants.{Value as Of, Bad}
+use Rattle.tagged.specs.Bytes.{starts}
+use Rattle.tagged.specs.Field.{fieldAt, fieldBytes}
 use Rattle.record.specs.Answer.{testedOf}
 
 -- The tags of the fields.
@@ -52,18 +53,6 @@ abbrev pub opening : List ℕ
 opening = 1 ∷ 0 ∷ 2 ∷ 0 ∷ 1 ∷ []
 
 -- ---- reading
-
--- Whether the three bytes from a place are a tag and a length of n.
-abbrev pub headAt : List ℕ → ℕ → ℕ → ℕ → Bool
-headAt s at tag n = eqb (getD s at 0) tag && eqb (getD s (at + 1) 0) 0 && eqb (getD s (at + 2) 0) n
-
--- Whether a whole field with a tag and a length of n stands at a place.
-abbrev pub standsAt : List ℕ → ℕ → ℕ → ℕ → Bool
-standsAt s at tag n = leb (at + 3 + n) (length s) && headAt s at tag n
-
--- The field at a place: its value, and where the next begins.
-unfoldable pub fieldAt : List ℕ → ℕ → ℕ → ℕ → Field
-fieldAt s at tag n = cond (standsAt s at tag n) (Of (numberAt s (at + 3) n) (at + 3 + n)) Bad
 
 -- A field's answer: on with its value and the next place, or RECORD at once.
 abbrev pub onField : Field → (ℕ → ℕ → Read) → Read
@@ -130,10 +119,6 @@ abbrev pub testedAs : List ℕ → Tested
 testedAs s = testedOf (readAs s)
 
 -- ---- writing
-
--- A field's bytes: tag, two bytes of length, value.
-unfoldable pub fieldBytes : ℕ → ℕ → ℕ → List ℕ
-fieldBytes tag n v = tag ∷ 0 ∷ n ∷ bytesOf n v
 
 -- The opening, the kind and the position.
 unfoldable pub headBytes : ℕ → ℕ → List ℕ

@@ -19,13 +19,13 @@ use Rattle.calls.specs.declared.answer.Changed.{Changed}
 use Rattle.calls.specs.declared.answer.Changed.the-variants.{To, Kept}
 use Rattle.calls.specs.declared.answer.Done.{Done}
 use Rattle.calls.specs.declared.answer.Done.the-variants.{Yes, Refused as Undone}
-use Rattle.table.specs.Table.{axesIn, rowAt, setRow}
-use Rattle.table.specs.Located.{located, onFound}
+use Rattle.rows.specs.Table.{axesIn, rowAt, setRow}
+use Rattle.rows.specs.Located.{located, onFound}
 use Rattle.table.specs.Call.{ruled, tableAfter, Spares, Commits, Makes, readIn, Reads, Saves}
-use Rattle.table.specs.declared.rows.Located.{Located}
-use Rattle.table.specs.declared.rows.Located.the-variants.{At, Refused}
-use Rattle.table.proofs.TableLaws.{length-setRow, word-other, row-other, row-same}
-use Rattle.table.proofs.LocatedLaws.{found, found-at, found-fits}
+use Rattle.rows.specs.declared.Located.{Located}
+use Rattle.rows.specs.declared.Located.the-variants.{At, Refused}
+use Rattle.rows.proofs.TableLaws.{length-setRow, word-other, row-other, row-same}
+use Rattle.rows.proofs.LocatedLaws.{found, found-at, found-fits}
 
 -- ---- the ways out of a call
 

@@ -1,5 +1,3 @@
-pub mod TableLaws
-pub mod LocatedLaws
 pub mod MaskLaws
 pub mod PortLaws
 pub mod AnswerLaws

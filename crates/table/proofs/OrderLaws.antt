@@ -22,10 +22,10 @@ use Rattle.reckon.specs.declared.Reckoned.the-variants.{Refused as Unreckoned}
 use Rattle.reckon.proofs.NearestLaws.{verdict}
 use Rattle.axis.specs.Config.{goodConfig}
 use Rattle.axis.specs.Row.{axisOf}
-use Rattle.axis.specs.Sound.{statusOf}
+use Rattle.sound.specs.Sound.{statusOf}
 use Rattle.axis.specs.declared.row.Row.{Row}
-use Rattle.axis.specs.declared.sound.Status.{Status}
-use Rattle.axis.specs.declared.sound.Status.the-variants.{Empty, Sampled, Counter, Broken}
+use Rattle.sound.specs.declared.Status.{Status}
+use Rattle.sound.specs.declared.Status.the-variants.{Empty, Sampled, Counter, Broken}
 use Rattle.record.specs.Answer.{writtenNumber}
 use Rattle.record.specs.Order.{Judged, other-layout, bad-nine, bad-kind, bad-rest, bad-value, all-good}
 use Rattle.record.specs.Record.{readAs, within, recordOf, savedAs}
@@ -39,13 +39,13 @@ use Rattle.calls.specs.declared.answer.Changed.{Changed}
 use Rattle.calls.specs.declared.answer.Changed.the-variants.{Kept}
 use Rattle.calls.specs.declared.answer.Done.{Done}
 use Rattle.calls.specs.declared.answer.Viewed.the-variants.{Refused as Unseen}
-use Rattle.table.specs.Table.{axesIn, rowAt}
-use Rattle.table.specs.Located.{located, onFound}
+use Rattle.rows.specs.Table.{axesIn, rowAt}
+use Rattle.rows.specs.Located.{located, onFound}
 use Rattle.table.specs.Call.{Makes, viewedIn, readIn, speedIn, saveIn}
 use Rattle.table.specs.Order.{After, changedNumber, Ordered}
-use Rattle.table.specs.declared.rows.Located.the-variants.{At, Refused}
-use Rattle.table.proofs.TableLaws.{axes-of, length-wrong}
-use Rattle.table.proofs.LocatedLaws.{found-none, found-past, found-at}
+use Rattle.rows.specs.declared.Located.the-variants.{At, Refused}
+use Rattle.rows.proofs.TableLaws.{axes-of, length-wrong}
+use Rattle.rows.proofs.LocatedLaws.{found-none, found-past, found-at}
 
 -- ---- one law for every call
 

@@ -14,18 +14,18 @@ use Rattle.fields.specs.Field.{fieldOf, flagOf}
 use Rattle.fields.proofs.BitLaws.{part}
 use Rattle.refusal.specs.declared.Refusal.{Refusal}
 use Rattle.refusal.specs.declared.Refusal.the-variants.{Length}
-use Rattle.axis.specs.Sound.{statusOf}
+use Rattle.sound.specs.Sound.{statusOf}
 use Rattle.axis.specs.declared.row.Row.{Row}
-use Rattle.axis.specs.declared.sound.Status.{Status}
-use Rattle.axis.specs.declared.sound.Status.the-variants.{Empty, Sampled, Counter, Broken}
-use Rattle.motion.specs.Step.{kept, stepRow}
-use Rattle.motion.specs.declared.step.SteppedRow.{SteppedRow}
-use Rattle.motion.proofs.RowLaws.{row-steps, empty-stays, counter-stays, broken-stays, words-after, fourth-unread}
-use Rattle.table.specs.Table.{axesIn, rowAt, setRow, AllWords}
+use Rattle.sound.specs.declared.Status.{Status}
+use Rattle.sound.specs.declared.Status.the-variants.{Empty, Sampled, Counter, Broken}
+use Rattle.sample.specs.Step.{kept, stepRow}
+use Rattle.sample.specs.declared.step.SteppedRow.{SteppedRow}
+use Rattle.sample.proofs.RowLaws.{row-steps, empty-stays, counter-stays, broken-stays, words-after, fourth-unread}
+use Rattle.rows.specs.Table.{axesIn, rowAt, setRow, AllWords}
 use Rattle.table.specs.Port.{nibble, stepAt, sampledTo, maskOf, masksTo, noted, Below, sampledTable, sampledAnswer, Samples, Bits, Stays}
 use Rattle.table.specs.declared.port.Masks.{Masks}
 use Rattle.table.specs.declared.port.Sampled.the-variants.{Seen, Refused}
-use Rattle.table.proofs.TableLaws.{axes-fit, length-setRow, row-same, row-other, row-words, set-words}
+use Rattle.rows.proofs.TableLaws.{axes-fit, length-setRow, row-same, row-other, row-words, set-words}
 use Rattle.table.proofs.MaskLaws.{mask-below, mask-same, mask-bit, mask-above}
 
 -- ---- one row after another

@@ -11,21 +11,21 @@ use borrow.Author.Tests.{leb-true}
 use Rattle.refusal.specs.declared.Refusal.{Refusal}
 use Rattle.refusal.specs.declared.Refusal.the-variants.{Value, Room}
 use Rattle.axis.specs.Row.{axisOf}
-use Rattle.axis.specs.Sound.{statusOf}
+use Rattle.sound.specs.Sound.{statusOf}
 use Rattle.axis.specs.declared.row.Row.{Row}
-use Rattle.axis.specs.declared.sound.Status.{Status}
-use Rattle.axis.specs.declared.sound.Status.the-variants.{Empty, Sampled, Counter, Broken}
+use Rattle.sound.specs.declared.Status.{Status}
+use Rattle.sound.specs.declared.Status.the-variants.{Empty, Sampled, Counter, Broken}
 use Rattle.record.specs.Record.{within, recordOf, savedAs, written}
 use Rattle.record.specs.declared.answer.Saved.{Saved}
 use Rattle.record.specs.declared.answer.Written.the-variants.{Bytes, Refused as Unwritten}
 use Rattle.record.proofs.RecordLaws.{saved-front, refused-kept}
 use Rattle.calls.specs.Calls.{byStatus, savedOf, saveRow, savedIn}
-use Rattle.table.specs.Table.{axesIn, rowAt}
-use Rattle.table.specs.Located.{located, onFound}
+use Rattle.rows.specs.Table.{axesIn, rowAt}
+use Rattle.rows.specs.Located.{located, onFound}
 use Rattle.table.specs.Call.{Saves, Fronts}
-use Rattle.table.specs.declared.rows.Located.{Located}
-use Rattle.table.specs.declared.rows.Located.the-variants.{At, Refused}
-use Rattle.table.proofs.LocatedLaws.{found}
+use Rattle.rows.specs.declared.Located.{Located}
+use Rattle.rows.specs.declared.Located.the-variants.{At, Refused}
+use Rattle.rows.proofs.LocatedLaws.{found}
 
 -- Bytes put before what lay beyond them.
 fronts : (bytes b : List ℕ) (n : ℕ) (d : List ℕ) → length bytes ≡ n → n ≤ length b → d ≡ bytes ++ drop n b → Fronts bytes b n d

@@ -15,9 +15,9 @@ use Rattle.calls.specs.declared.answer.Changed.the-variants.{To, Kept}
 use Rattle.calls.proofs.ChangeLaws.{preset-keeps, arm-keeps, acknowledge-keeps, read-keeps}
 use Rattle.calls.proofs.SetupLaws.{setup-makes, erase-makes}
 use Rattle.calls.proofs.SaveLaws.{restore-refused, restore-makes}
-use Rattle.table.specs.Table.{AllWords, rowAt}
+use Rattle.rows.specs.Table.{AllWords, rowAt}
 use Rattle.table.specs.Call.{ruled, tableAfter}
-use Rattle.table.proofs.TableLaws.{set-words}
+use Rattle.rows.proofs.TableLaws.{set-words}
 use Rattle.table.proofs.CallLaws.{replaced}
 
 -- A rule makes rows of 64-bit words.

@@ -16,8 +16,8 @@ use Rattle.calls.specs.declared.answer.Changed.the-variants.{To, Kept}
 use Rattle.calls.specs.declared.answer.Done.{Done}
 use Rattle.calls.specs.declared.answer.Viewed.{Viewed}
 use Rattle.calls.specs.declared.answer.Viewed.the-variants.{Refused as Unseen}
-use Rattle.table.specs.Table.{rowAt, setRow}
-use Rattle.table.specs.Located.{located, onFound}
+use Rattle.rows.specs.Table.{rowAt, setRow}
+use Rattle.rows.specs.Located.{located, onFound}
 
 -- What a call makes of the named row, by its rule for one row.
 abbrev pub ruled : (Row → Changed) → List ℕ → ℕ → Changed

@@ -10,7 +10,7 @@ use Rattle.refusal.specs.declared.Refusal.the-variants.{Length, Axis}
 use Rattle.axis.specs.declared.row.Row.{Row}
 use Rattle.calls.specs.Answer.{doneOf, doneNumber}
 use Rattle.calls.specs.declared.answer.Changed.{Changed}
-use Rattle.table.specs.Table.{axesIn, rowAt}
+use Rattle.rows.specs.Table.{axesIn, rowAt}
 
 -- A number of an answer that is done, or refused for a reason that comes after this one.
 abbrev pub After : Refusal → ℕ → Type 0

@@ -8,9 +8,9 @@ use lib.ListN.{length}
 use Rattle.refusal.specs.Refusal.{numberOf, foundIn}
 use Rattle.refusal.specs.declared.Refusal.the-variants.{Length}
 use Rattle.fields.specs.Field.{fieldOf, flagOf}
-use Rattle.motion.specs.Step.{stepRow}
-use Rattle.motion.specs.declared.step.SteppedRow.{SteppedRow}
-use Rattle.table.specs.Table.{axesIn, rowAt, setRow}
+use Rattle.sample.specs.Step.{stepRow}
+use Rattle.sample.specs.declared.step.SteppedRow.{SteppedRow}
+use Rattle.rows.specs.Table.{axesIn, rowAt, setRow}
 use Rattle.table.specs.declared.port.Masks.{Masks}
 use Rattle.table.specs.declared.port.Sampled.{Sampled}
 use Rattle.table.specs.declared.port.Sampled.the-variants.{Seen, Refused}

@@ -2,8 +2,8 @@
 ghost use Rattle.calls.specs.Calls.{presetRow, armRow, acknowledgeRow};
 ghost use Rattle.table.specs.Call.{Makes};
 use crate::commit::commit;
-use crate::rows::Located;
-use crate::rows::locate;
+use rows::Located;
+use rows::locate;
 use calls::answer::Done;
 
 // Another position: LENGTH, AXIS, BROKEN, EMPTY, VALUE.

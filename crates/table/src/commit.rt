@@ -2,7 +2,7 @@
 ghost use Prim.Native.Nat.{_+_, _*_, _≤_};
 ghost use lib.ListN.{length};
 ghost use Rattle.table.specs.Call.{Commits};
-use crate::rows::write_row;
+use rows::write_row;
 use calls::answer::Changed;
 use calls::answer::Done;
 use calls::answer::answered;

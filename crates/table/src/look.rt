@@ -1,8 +1,8 @@
 // View, and speed by period: the calls that only look.
 ghost use mathlib.Core.Path.{_≡_};
 ghost use Rattle.table.specs.Call.{viewedIn, speedIn};
-use crate::rows::Located;
-use crate::rows::locate;
+use rows::Located;
+use rows::locate;
 use calls::answer::Viewed;
 use reckon::Reckoned;
 

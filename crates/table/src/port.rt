@@ -3,11 +3,11 @@ ghost use mathlib.Core.Path.{_≡_};
 ghost use Prim.Native.Nat.{_+_, _*_, _^_, _<_, _≤_};
 ghost use lib.ListN.{length};
 ghost use Rattle.table.specs.Port.{nibble, putBit, noted, Below, SamplesRow, Samples};
-use crate::rows::axes_in;
-use crate::rows::read_row;
-use crate::rows::write_row;
-use motion::step::SteppedRow;
-use motion::step::step_row;
+use rows::axes_in;
+use rows::read_row;
+use rows::write_row;
+use sample::step::SteppedRow;
+use sample::step::step_row;
 use refusal::Refusal;
 
 // Bit k is axis k's.

@@ -1,8 +1,8 @@
 // A reading of a narrow counter.
 ghost use Rattle.table.specs.Call.{Reads};
 use crate::commit::commit;
-use crate::rows::Located;
-use crate::rows::locate;
+use rows::Located;
+use rows::locate;
 use reckon::Reckoned;
 
 // The position that a reading gives, stored and answered: LENGTH, AXIS, BROKEN, EMPTY, KIND, VALUE, HALF, RANGE.

@@ -2,8 +2,8 @@
 ghost use Rattle.calls.specs.Calls.{restoreRow};
 ghost use Rattle.table.specs.Call.{Makes, Saves};
 use crate::commit::commit;
-use crate::rows::Located;
-use crate::rows::locate;
+use rows::Located;
+use rows::locate;
 use calls::answer::Done;
 use record::answer::Written;
 

@@ -2,8 +2,8 @@
 ghost use Rattle.calls.specs.Calls.{setupRow, eraseRow};
 ghost use Rattle.table.specs.Call.{Makes};
 use crate::commit::commit;
-use crate::rows::Located;
-use crate::rows::locate;
+use rows::Located;
+use rows::locate;
 use calls::answer::Done;
 
 // An axis set up anew: LENGTH, AXIS, VALUE.

@@ -16,7 +16,7 @@ use mir.Val.{SFits}
 use Rattle.integers.specs.Integer.{plus, minus}
 use Rattle.integers.proofs.Balance.{abs-is, bal-sub, ltZ-true}
 use Rattle.integers.proofs.Machine.{i64-fits, fits-size, no-neg, no-pos, abs-nonneg}
-use Rattle.record.proofs.StoreLaws.{sets-then}
+use Rattle.tagged.proofs.StoreLaws.{sets-then}
 use Rattle.tracing.specs.Text.{FEED, MINUS, ZERO, SAMPLES, POSITION, DOUBLES, decimal, numeral, lineOf, textOf, Puts}
 use Rattle.tracing.specs.declared.report.Report.{Report}
 use Rattle.tracing.proofs.DecimalLaws.{decimal-some, decimal-one, decimal-more, decimal-length}

@@ -13,21 +13,21 @@ use Rattle.position.specs.Position.{positionOf}
 use Rattle.axis.specs.Config.{goodConfig}
 use Rattle.axis.specs.Kind.{X4}
 use Rattle.axis.specs.Row.{axisOf, rowOf, fresh}
-use Rattle.axis.specs.Sound.{statusOf}
+use Rattle.sound.specs.Sound.{statusOf}
 use Rattle.axis.specs.declared.row.Row.{Row}
-use Rattle.axis.specs.declared.sound.Status.the-variants.{Sampled}
-use Rattle.axis.proofs.SoundLaws.{setup-sound}
-use Rattle.motion.specs.Step.{stepRow}
-use Rattle.motion.proofs.RowLaws.{status-after}
+use Rattle.sound.specs.declared.Status.the-variants.{Sampled}
+use Rattle.sound.proofs.SoundLaws.{setup-sound}
+use Rattle.sample.specs.Step.{stepRow}
+use Rattle.sample.proofs.RowLaws.{status-after}
 use Rattle.calls.specs.Answer.{viewOf}
 use Rattle.calls.specs.Calls.{configOf, setupRow, viewRow}
 use Rattle.calls.specs.declared.answer.Viewed.the-variants.{Shows}
-use Rattle.table.specs.Table.{axesIn, rowAt, setRow}
-use Rattle.table.specs.Located.{located}
+use Rattle.rows.specs.Table.{axesIn, rowAt, setRow}
+use Rattle.rows.specs.Located.{located}
 use Rattle.table.specs.Port.{nibble, sampledTo, sampledTable}
 use Rattle.table.specs.Call.{tableAfter, viewedIn}
-use Rattle.table.proofs.TableLaws.{row-same}
-use Rattle.table.proofs.LocatedLaws.{found-at}
+use Rattle.rows.proofs.TableLaws.{row-same}
+use Rattle.rows.proofs.LocatedLaws.{found-at}
 use Rattle.table.proofs.PortLaws.{length-sampledTo}
 use Rattle.tracing.specs.Trace.{LIMIT, started, tracedBy, lookedAt, fedWith, reportOf, lowFour, steppedBy, inputRow, inputReport}
 use Rattle.tracing.specs.declared.trace.Trace.{Trace}

@@ -6,7 +6,7 @@ use Rattle.position.specs.Position.{positionOf}
 use Rattle.axis.specs.Kind.{X4}
 use Rattle.axis.specs.Row.{axisOf, rowOf, fresh}
 use Rattle.axis.specs.declared.row.Row.{Row}
-use Rattle.motion.specs.Step.{stepRow}
+use Rattle.sample.specs.Step.{stepRow}
 use Rattle.calls.specs.Answer.{viewValue}
 use Rattle.calls.specs.Calls.{configOf, setupRow}
 use Rattle.calls.specs.declared.answer.View.{View}

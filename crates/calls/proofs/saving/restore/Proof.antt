@@ -4,7 +4,7 @@ use Prim.Native.Nat.{ℕ}
 use Rattle.position.specs.Position.{inRange}
 use Rattle.axis.specs.Config.{goodConfig}
 use Rattle.axis.specs.Row.{rowOf, freshAt, Narrow}
-use Rattle.axis.proofs.SoundLaws.{setup-held}
+use Rattle.sound.proofs.SoundLaws.{setup-held}
 use Rattle.record.specs.declared.answer.Saved.{Saved}
 use Rattle.record.specs.declared.answer.Read.the-variants.{Accepted}
 use Rattle.record.specs.Record.{readAs}

@@ -5,7 +5,7 @@ use borrow.Author.Tests.{not-true, not-false}
 use Rattle.axis.specs.Config.{goodConfig}
 use Rattle.axis.specs.Row.{rowOf, fresh, Narrow}
 use Rattle.axis.specs.declared.config.Config.{Config}
-use Rattle.axis.proofs.SoundLaws.{setup-held}
+use Rattle.sound.proofs.SoundLaws.{setup-held}
 use Rattle.calls.specs.declared.answer.Changed.the-variants.{To}
 use Rattle.calls.specs.Calls.{configOf, setupRow}
 use borrow.Author.Needs.{needs}

@@ -10,8 +10,9 @@ use mir.Val.{toZ, ofZ}
 use mir.Facts.{sfits-toZ}
 use Rattle.integers.proofs.Machine.{back}
 use Rattle.record.specs.declared.answer.Read.the-variants.{Accepted}
-use Rattle.record.specs.declared.field.Field.the-variants.{Value}
-use Rattle.record.specs.Record.{fieldAt, endedAt, within, saying, END}
+use Rattle.tagged.specs.declared.field.Field.the-variants.{Value}
+use Rattle.record.specs.Record.{endedAt, within, saying, END}
+use Rattle.tagged.specs.Field.{fieldAt}
 use Rattle.record.proofs.reader.ended.Statement.{statement}
 use Rattle.record.proofs.reader.ended.Tie as tie
 

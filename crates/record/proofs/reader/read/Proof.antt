@@ -5,10 +5,11 @@ use borrow.Author.Tests.{not-true, not-false}
 use mir.Syntax.{w8}
 use mir.Val.{Fits}
 use Rattle.record.specs.declared.answer.Read.the-variants.{Refused}
-use Rattle.record.specs.declared.field.Field.the-variants.{Value}
-use Rattle.record.specs.Bytes.{starts}
-use Rattle.record.specs.Record.{fieldAt, readAs, opening, knownKind, KIND, POSITION}
-use Rattle.record.proofs.FieldLaws.{field-below}
+use Rattle.tagged.specs.declared.field.Field.the-variants.{Value}
+use Rattle.tagged.specs.Bytes.{starts}
+use Rattle.record.specs.Record.{readAs, opening, knownKind, KIND, POSITION}
+use Rattle.tagged.specs.Field.{fieldAt}
+use Rattle.tagged.proofs.FieldLaws.{field-below}
 use Rattle.record.proofs.reader.read.Statement.{statement}
 use Rattle.record.proofs.reader.read.Tie as tie
 

@@ -1,9 +1,10 @@
 use borrow.Author.Needs.{needs}
 use mathlib.Core.Path.{_≡_, sym, _∙_}
-use Rattle.record.specs.declared.field.Field.the-variants.{Value}
-use Rattle.record.specs.Bytes.{AllBytes}
-use Rattle.record.specs.Record.{fieldAt, unopened, LAYOUT}
-use Rattle.record.proofs.FieldLaws.{field-below}
+use Rattle.tagged.specs.declared.field.Field.the-variants.{Value}
+use Rattle.tagged.specs.Bytes.{AllBytes}
+use Rattle.record.specs.Record.{unopened, LAYOUT}
+use Rattle.tagged.specs.Field.{fieldAt}
+use Rattle.tagged.proofs.FieldLaws.{field-below}
 use Rattle.record.proofs.reader.why_unopened.Statement.{statement}
 use Rattle.record.proofs.reader.why_unopened.Tie as tie
 

@@ -1,9 +1,10 @@
 use borrow.Author.Needs.{needs}
 use mathlib.Core.Path.{refl}
 use mathlib.Core.List.{_++_}
-use Rattle.record.specs.Bytes.{bytesOf}
-use Rattle.record.specs.Record.{fieldBytes, headBytes, sampledBytes, DEPTH, TURN, END}
-use Rattle.record.proofs.StoreLaws.{runs-on}
+use Rattle.tagged.specs.Bytes.{bytesOf}
+use Rattle.record.specs.Record.{headBytes, sampledBytes, DEPTH, TURN, END}
+use Rattle.tagged.specs.Field.{fieldBytes}
+use Rattle.tagged.proofs.StoreLaws.{runs-on}
 use Rattle.record.proofs.writer.put_sampled.Statement.{statement}
 use Rattle.record.proofs.writer.put_sampled.Tie as tie
 

@@ -6,7 +6,7 @@ use lib.ListN.{length}
 use borrow.Author.Needs.{needs}
 use Rattle.table.specs.Port.{nibble, sampledTo, maskOf, masksTo}
 use Rattle.table.specs.declared.port.Masks.{Masks}
-use Rattle.table.proofs.TableLaws.{axes-fit, axes-most}
+use Rattle.rows.proofs.TableLaws.{axes-fit, axes-most}
 use Rattle.table.proofs.PortLaws.{length-sampledTo, masks-below, masks-next, table-next, sample-none, sample-all}
 use Rattle.table.proofs.port.sample.Statement.{statement}
 use Rattle.table.proofs.port.sample.Tie as tie
