@@ -11,8 +11,6 @@ use Rattle.position.specs.Position.{inRange, wordOf}
 use Rattle.position.proofs.PositionLaws.{word-low, word-high}
 use Rattle.refusal.specs.declared.Refusal.{Refusal}
 use Rattle.refusal.specs.declared.Refusal.the-variants.{Kind as KIND, Value as VALUE}
-use Rattle.reckon.specs.declared.Reckoned.{Reckoned}
-use Rattle.reckon.specs.declared.Reckoned.the-variants.{Number, Refused as Unreckoned}
 use Rattle.axis.specs.Row.{axisOf, rowOf, freshAt}
 use Rattle.sound.specs.Sound.{statusOf, SampledAxis, CounterAxis, counterOf}
 use Rattle.axis.specs.declared.row.Axis.{Axis}
@@ -21,10 +19,10 @@ use Rattle.sound.specs.declared.Status.{Status}
 use Rattle.sound.specs.declared.Status.the-variants.{Sampled, Counter}
 use Rattle.axis.proofs.RowLaws.{comes-back, held-words}
 use Rattle.sound.proofs.SoundLaws.{sampled-held, sampled-gives, sampled-from, counter-held, counter-gives, counter-from}
-use Rattle.calls.specs.Change.{changed, presetAxis, armAxis, acknowledgeAxis, readAxis, Holds}
-use Rattle.calls.specs.Calls.{byStatus, placeRow, presetRow, armRow, acknowledgeRow, readingRow, storedRow, readRow}
+use Rattle.calls.specs.Change.{changed, presetAxis, armAxis, acknowledgeAxis, Holds}
+use Rattle.calls.specs.Calls.{byStatus, placeRow, presetRow, armRow, acknowledgeRow}
 use Rattle.calls.specs.declared.answer.Changed.the-variants.{To, Kept}
-use Rattle.calls.proofs.StatusLaws.{live, read-counter, read-in-range}
+use Rattle.calls.proofs.StatusLaws.{live}
 
 -- ---- axes
 
@@ -98,7 +96,7 @@ acknowledge-sampled x s =
     (λ u. (s .unprimed u .homed, s .unprimed u .range, refl, refl))
 
 -- A counter at another position is a counter.
-counter-moved : (x : Axis) (word : ℕ) → 0 < word → word < 2 ^ 63 → CounterAxis x → (y : Axis) → y ≡ freshAt (counterOf (x .width)) word → CounterAxis y
+pub counter-moved : (x : Axis) (word : ℕ) → 0 < word → word < 2 ^ 63 → CounterAxis x → (y : Axis) → y ≡ freshAt (counterOf (x .width)) word → CounterAxis y
 counter-moved x word above below k y e =
     subst CounterAxis (sym e) (record { above = above; below = below; narrow = k .narrow; wide = k .wide; rest = refl })
 
@@ -106,15 +104,6 @@ counter-moved x word above below k y e =
 pub preset-counter : (x : Axis) (p : ℤ) → inRange p ≡ true → CounterAxis x → CounterAxis (presetAxis p x)
 unfolding changed
 preset-counter x p i k = counter-moved x (wordOf p) (word-low p i) (word-high p i) k (presetAxis p x) (ap (presetAxis p) (k .rest))
-
--- What a reading makes of a counter is the counter at the position read.
-pub read-at : (x : Axis) (p : ℤ) → CounterAxis x → readAxis p x ≡ freshAt (counterOf (x .width)) (wordOf p)
-unfolding changed
-read-at x p k = ap (readAxis p) (k .rest)
-
--- A reading within the range keeps a counter.
-pub read-kept : (x : Axis) (p : ℤ) → inRange p ≡ true → CounterAxis x → CounterAxis (readAxis p x)
-read-kept x p i k = counter-moved x (wordOf p) (word-low p i) (word-high p i) k (readAxis p x) (read-at x p k)
 
 -- ---- rows
 
@@ -180,14 +169,3 @@ arm-keeps = sampled-only armAxis arm-sampled
 pub acknowledge-keeps : (r q : Row) → acknowledgeRow r ≡ To q → Holds q (statusOf r) (acknowledgeAxis (axisOf r))
 unfolding acknowledgeRow
 acknowledge-keeps = sampled-only acknowledgeAxis acknowledge-sampled
-
--- HEADLINE: a reading that is accepted stores the position that it answers, and leaves a counter row a counter.
-pub read-keeps : (x : ℕ) (r q : Row) → readRow x r ≡ To q → (p : ℤ) × (readingRow x r ≡ Number p) × Holds q (statusOf r) (readAxis p (axisOf r))
-unfolding readRow storedRow
-read-keeps x r q e = go (readingRow x r) refl e
-  where
-    go : (n : Reckoned) → readingRow x r ≡ n → storedRow r n ≡ To q → (p : ℤ) × (readingRow x r ≡ Number p) × Holds q (statusOf r) (readAxis p (axisOf r))
-    go (Number p) h k =
-        let c = read-counter x r p h .0 in
-        (p, h, rw c (to-one k (counter-holds (readAxis p (axisOf r)) (read-kept (axisOf r) p (read-in-range x r p h) (counter-gives r c)))))
-    go (Unreckoned f) h k = absurd (kept-not q f k)

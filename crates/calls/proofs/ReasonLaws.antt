@@ -3,22 +3,15 @@ use Prim.Native.Nat.{ℕ, _<_, _≤_}
 use native.Mathlib.Omega.{arith}
 use mathlib.Core.Path.{_≡_, refl, sym, ap, _∙_}
 use mathlib.Core.Logic.{_↔_, _⊎_, inl, inr}
-use mathlib.Core.Bool.{false, cond, _&&_}
-use lib.Dec.{eqb, leb, lit<, lit≤}
+use mathlib.Core.Bool.{false, cond}
+use lib.Dec.{eqb, lit<, lit≤}
 use borrow.Author.Tests.{eqb-false}
-use lib.ListN.{length}
 use lib.IntN.{ℤ}
 use Rattle.integers.proofs.Balance.{Tested, yes, no, test}
-use Rattle.position.specs.Position.{inRange, positionOf}
+use Rattle.position.specs.Position.{inRange}
 use Rattle.refusal.specs.Refusal.{numberOf}
 use Rattle.refusal.specs.declared.Refusal.{Refusal}
 use Rattle.refusal.specs.declared.Refusal.the-variants.{Broken as BROKEN, Empty as EMPTY, Kind as KIND, Value as VALUE}
-use Rattle.reckon.specs.Reckoned.{refusalIn}
-use Rattle.reckon.specs.Widening.{widened}
-use Rattle.reckon.specs.Nearest.{Verdict, value, half, range, at}
-use Rattle.reckon.specs.Speed.{goodCount, goodSamples, goodRate, speedByCount}
-use Rattle.reckon.specs.declared.Reckoned.the-variants.{Refused as Unreckoned}
-use Rattle.reckon.proofs.NearestLaws.{verdict}
 use Rattle.axis.specs.Row.{axisOf, rowOf, freshAt}
 use Rattle.sound.specs.Sound.{statusOf, counterOf}
 use Rattle.axis.specs.declared.row.Axis.{Axis}
@@ -26,13 +19,9 @@ use Rattle.axis.specs.declared.row.Row.{Row}
 use Rattle.sound.specs.declared.Status.{Status}
 use Rattle.sound.specs.declared.Status.the-variants.{Empty, Sampled, Counter, Broken}
 use Rattle.sound.proofs.SoundLaws.{counter-gives}
-use Rattle.record.specs.Answer.{writtenNumber}
-use Rattle.record.specs.Record.{within, recordOf, savedAs}
-use Rattle.record.specs.declared.answer.Saved.{Saved}
-use Rattle.record.specs.declared.answer.Written.the-variants.{Refused as Unwritten}
 use Rattle.calls.specs.Answer.{doneOf, doneNumber, viewOf, viewNumber}
 use Rattle.calls.specs.Change.{presetAxis, armAxis, acknowledgeAxis}
-use Rattle.calls.specs.Calls.{byStatus, placeRow, presetRow, armRow, acknowledgeRow, viewRow, readingOf, readingRow, signOf, spanOf, speedOf, speedRow, savedOf, saveRow}
+use Rattle.calls.specs.Calls.{byStatus, placeRow, presetRow, armRow, acknowledgeRow, viewRow}
 use Rattle.calls.specs.Reasons.{Told}
 use Rattle.calls.specs.declared.answer.Changed.{Changed}
 use Rattle.calls.specs.declared.answer.Changed.the-variants.{To, Kept}
@@ -44,7 +33,7 @@ other : {B : Type 0} (m n : ℕ) → eqb m n ≡ false → m ≡ n → B
 other m n e h = absurd (eqb-false m n e h)
 
 -- Done, or a reason after KIND.
-Past : ℕ → Type 0
+unfoldable pub Past : ℕ → Type 0
 Past n = (n ≡ 0) ⊎ (numberOf KIND < n)
 
 -- What a call may answer on a sampled row or a counter: neither BROKEN nor EMPTY, and KIND exactly where the row is of the wrong kind.
@@ -105,19 +94,19 @@ module _ {A : Type 0} (number : A → ℕ) (refuse : Refusal → A) (same : (e :
   }
 
   -- A call on both kinds.
-  both-kinds : (sampled counter : A) → Past (number sampled) → Past (number counter) → (s : Status) →
+  pub both-kinds : (sampled counter : A) → Past (number sampled) → Past (number counter) → (s : Status) →
       Told (number (byStatus refuse sampled counter s)) s ⊥
   both-kinds sampled counter onS onC = told (λ _. ⊥) (λ w. w) (λ w. w) sampled counter (right onS (λ w. w)) (right onC (λ w. w))
 
   -- A call on sampled rows only.
-  sampled-only : (sampled : A) → Past (number sampled) → (s : Status) → Told (number (byStatus refuse sampled (refuse KIND) s)) s (s ≡ Counter)
+  pub sampled-only : (sampled : A) → Past (number sampled) → (s : Status) → Told (number (byStatus refuse sampled (refuse KIND) s)) s (s ≡ Counter)
   unfolding rank
   sampled-only sampled onS =
       told (λ s. s ≡ Counter) (apart Broken Counter refl) (apart Empty Counter refl) sampled (refuse KIND)
       (right onS (apart Sampled Counter refl)) (rw (same KIND) (wrongly refl))
 
   -- A call on counters only.
-  counters-only : (counter : A) → Past (number counter) → (s : Status) → Told (number (byStatus refuse (refuse KIND) counter s)) s (s ≡ Sampled)
+  pub counters-only : (counter : A) → Past (number counter) → (s : Status) → Told (number (byStatus refuse (refuse KIND) counter s)) s (s ≡ Sampled)
   unfolding rank
   counters-only counter onC =
       told (λ s. s ≡ Sampled) (apart Broken Sampled refl) (apart Empty Sampled refl) (refuse KIND) counter
@@ -133,43 +122,7 @@ place-past p r = go (test (inRange p))
     go (yes i) = rw i (inl refl)
     go (no i) = rw i (inr (lit< tt))
 
-reading-past : (w : ℕ) (W : ℤ) (x : ℕ) → Past (refusalIn (widened w W x))
-unfolding Past
-reading-past w W x = go (verdict w W x)
-  where
-    go : Verdict w W x (widened w W x) → Past (refusalIn (widened w W x))
-    go (value g e) = rw e (inr (lit< tt))
-    go (half g p b h e) = rw e (inr (lit< tt))
-    go (range g p b l i e) = rw e (inr (lit< tt))
-    go (at g p b l i e) = rw e (inl refl)
-
-count-past : (D : ℤ) (T F : ℕ) → Past (refusalIn (speedByCount D T F))
-unfolding Past speedByCount
-count-past D T F = go (test (goodCount D && goodSamples T && goodRate F))
-  where
-    go : Tested (goodCount D && goodSamples T && goodRate F) → Past (refusalIn (speedByCount D T F))
-    go (yes g) = rw g (inl refl)
-    go (no g) = rw g (inr (lit< tt))
-
-speed-past : (rate : ℕ) (a : Axis) → Past (refusalIn (speedOf rate a))
-unfolding Past speedOf
-speed-past rate a = go (test (goodRate rate)) (test (eqb (a .period) 0))
-  where
-    go : Tested (goodRate rate) → Tested (eqb (a .period) 0) → Past (refusalIn (speedOf rate a))
-    go (no g) t = rw g (inr (lit< tt))
-    go (yes g) (yes z) = rw (g, z) (inr (lit< tt))
-    go (yes g) (no z) = rw (g, z) (count-past (signOf (a .direction)) (spanOf a) rate)
-
-save-past : (room : ℕ) (s : Saved) → Past (writtenNumber (savedAs room s))
-unfolding Past savedAs
-save-past room s = go (test (within s)) (test (leb (length (recordOf s)) room))
-  where
-    go : Tested (within s) → Tested (leb (length (recordOf s)) room) → Past (writtenNumber (savedAs room s))
-    go (no g) t = rw g (inr (lit< tt))
-    go (yes g) (yes h) = rw (g, h) (inl refl)
-    go (yes g) (no h) = rw (g, h) (inr (lit< tt))
-
--- ---- the seven calls: BROKEN exactly on a broken row, EMPTY exactly on an empty one, and KIND exactly on one of the kind that the call does not take
+-- ---- each call: BROKEN exactly on a broken row, EMPTY exactly on an empty one, and KIND exactly on one of the kind that the call does not take
 
 abbrev changedNumber : Changed → ℕ
 changedNumber c = doneNumber (doneOf c)
@@ -193,25 +146,6 @@ acknowledge-reasons r = sampled-only changedNumber Kept (λ e. refl) (To (rowOf 
 pub view-reasons : (r : Row) → Told (viewNumber (viewRow r)) (statusOf r) ⊥
 unfolding viewRow Past
 view-reasons r = let v = Shows (viewOf (axisOf r)) in both-kinds viewNumber Unseen (λ e. refl) v v (inl refl) (inl refl) (statusOf r)
-
--- HEADLINE: a reading takes counters.
-pub reading-reasons : (x : ℕ) (r : Row) → Told (refusalIn (readingRow x r)) (statusOf r) (statusOf r ≡ Sampled)
-unfolding readingRow
-reading-reasons x r =
-    let a = axisOf r in
-    counters-only refusalIn Unreckoned (λ e. refl) (readingOf x a) (reading-past (a .width) (positionOf (a .word)) x) (statusOf r)
-
--- HEADLINE: speed by period takes sampled rows.
-pub speed-reasons : (rate : ℕ) (r : Row) → Told (refusalIn (speedRow rate r)) (statusOf r) (statusOf r ≡ Counter)
-unfolding speedRow
-speed-reasons rate r = sampled-only refusalIn Unreckoned (λ e. refl) (speedOf rate (axisOf r)) (speed-past rate (axisOf r)) (statusOf r)
-
--- HEADLINE: save takes both kinds.
-pub save-reasons : (room : ℕ) (r : Row) → Told (writtenNumber (saveRow room r)) (statusOf r) ⊥
-unfolding saveRow
-save-reasons room r =
-    let s = savedOf (axisOf r) in
-    both-kinds writtenNumber Unwritten (λ e. refl) (savedAs room s) (savedAs room s) (save-past room s) (save-past room s) (statusOf r)
 
 -- ---- what each call does on the rows that it takes
 
@@ -238,8 +172,3 @@ view-is r l = either-kind Unseen (Shows (viewOf (axisOf r))) r l
 -- HEADLINE: of a counter that is its kind and its position, and flags and doubles 0.
 pub view-counter : (r : Row) → statusOf r ≡ Counter → viewRow r ≡ Shows (viewOf (freshAt (counterOf (axisOf r .width)) (axisOf r .word)))
 view-counter r e = view-is r (inr e) ∙ ap (λ (a : Axis). Shows (viewOf a)) (counter-gives r e .rest)
-
--- HEADLINE: on a counter a reading is widened from the counter's width and position, with the refusals of that call.
-pub reading-is : (x : ℕ) (r : Row) → statusOf r ≡ Counter → readingRow x r ≡ widened (axisOf r .width) (positionOf (axisOf r .word)) x
-unfolding readingRow
-reading-is x r e = rw e

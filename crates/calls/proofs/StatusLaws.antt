@@ -2,18 +2,16 @@
 use Prim.Native.Nat.{ℕ, _<_, _^_}
 use native.Mathlib.Omega.{arith}
 use mathlib.Core.Path.{_≡_, refl, sym, ap, subst}
-use mathlib.Core.Logic.{_⊎_, inl, inr, ⊎-elim}
+use mathlib.Core.Logic.{_⊎_, inl, inr}
 use mathlib.Core.Bool.{Bool, true, false, cond}
 use lib.IntN.{ℤ}
 use mir.Syntax.{w64}
 use mir.Val.{toZ, ofZ}
 use Rattle.integers.proofs.Machine.{back, fits-size}
-use Rattle.position.specs.Position.{inRange, positionOf}
+use Rattle.position.specs.Position.{inRange}
 use Rattle.position.proofs.PositionLaws.{range-is}
 use Rattle.refusal.specs.declared.Refusal.{Refusal}
-use Rattle.refusal.specs.declared.Refusal.the-variants.{Broken as BROKEN, Empty as EMPTY, Kind as KIND}
-use Rattle.reckon.specs.declared.Reckoned.the-variants.{Number, Refused}
-use Rattle.reckon.proofs.NearestLaws.{nearest}
+use Rattle.refusal.specs.declared.Refusal.the-variants.{Broken as BROKEN, Empty as EMPTY}
 use Rattle.axis.specs.Row.{axisOf, Narrow}
 use Rattle.sound.specs.Sound.{statusOf}
 use Rattle.axis.specs.declared.row.Axis.{Axis}
@@ -23,7 +21,7 @@ use Rattle.sound.specs.declared.Status.the-variants.{Empty, Sampled, Counter, B
 use Rattle.axis.proofs.RowLaws.{row-held}
 use Rattle.sound.proofs.SoundLaws.{sampled-gives, counter-gives}
 use Rattle.calls.specs.Change.{changed}
-use Rattle.calls.specs.Calls.{Positioned, byStatus, readingOf, readingRow}
+use Rattle.calls.specs.Calls.{Positioned, byStatus}
 
 -- A sampled row has a position.
 pub sampled-positioned : (r : Row) → statusOf r ≡ Sampled → Positioned r
@@ -82,22 +80,3 @@ made-live q false e = inr e
 pub either-kind : {A : Type 0} (refuse : Refusal → A) (x : A) (r : Row) → Live r → byStatus refuse x x (statusOf r) ≡ x
 either-kind refuse x r (inl e) = ap (byStatus refuse x x) e
 either-kind refuse x r (inr e) = ap (byStatus refuse x x) e
-
--- What is refused is no number.
-pub refused-not : (p : ℤ) (e : Refusal) → Refused e ≡ Number p → ⊥
-refused-not p e h = let z : _≡_ {A = ℕ} 0 1 = cc in omega arith
-
--- A reading that is accepted was one of a counter row.
-pub read-counter : (x : ℕ) (r : Row) (p : ℤ) → readingRow x r ≡ Number p → (statusOf r ≡ Counter) × (readingOf x (axisOf r) ≡ Number p)
-unfolding readingRow
-read-counter x r p e =
-    ⊎-elim
-    (λ h. absurd (refused-not p KIND (h .1)))
-    (λ h. h)
-    (live Refused (Refused KIND) (readingOf x (axisOf r)) (Number p) (refused-not p) (statusOf r) e)
-
--- A position that was read is in the range.
-pub read-in-range : (x : ℕ) (r : Row) (p : ℤ) → readingRow x r ≡ Number p → inRange p ≡ true
-read-in-range x r p e =
-    let a = axisOf r in
-    nearest (a .width) (positionOf (a .word)) p x (read-counter x r p e .1) .0

@@ -43,10 +43,6 @@ armAxis x = changed x (x .word) true false (x .range) (x .index) (x .doubles)
 abbrev pub acknowledgeAxis : Axis → Axis
 acknowledgeAxis x = changed x (x .word) (x .armed) (x .homed) (x .range) false 0
 
--- A reading that is accepted sets the position.
-abbrev pub readAxis : ℤ → Axis → Axis
-readAxis p x = changed x (wordOf p) (x .armed) (x .homed) (x .range) (x .index) (x .doubles)
-
 -- A row of four 64-bit words that has a status and holds an axis.
 pub record Holds (q : Row) (s : Status) (a : Axis) : Type 0 where
   pub status : statusOf q ≡ s

@@ -2,4 +2,3 @@ pub mod Change
 pub mod Answer
 pub mod Calls
 pub mod Reasons
-pub mod Counter

@@ -2,7 +2,6 @@
 ghost use mathlib.Core.Path.{_≡_};
 ghost use Rattle.calls.specs.Answer.{doneOf};
 use axis::row::Row;
-use reckon::Reckoned;
 use refusal::Refusal;
 
 // What a call makes of the named row: another row, or the reason for leaving it.
@@ -15,12 +14,6 @@ pub enum Changed {
 pub enum Done {
     Yes,
     Refused(Refusal),
-}
-
-// What a reading answers, and what it makes of the named row.
-pub struct Taken {
-    pub answer: Reckoned,
-    pub row: Changed,
 }
 
 // What a view shows of an axis.

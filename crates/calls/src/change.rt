@@ -4,10 +4,10 @@ ghost use Rattle.calls.specs.Calls.{Positioned, placeRow, presetRow, arm
 use crate::answer::Changed;
 use axis::pack::pack;
 use axis::row::Row;
-use sound::Status;
-use sound::classify;
 use axis::unpack::unpack;
 use refusal::Refusal;
+use sound::Status;
+use sound::classify;
 
 // A row put at another position, with HOMED and RANGE cleared.
 fn placed(r: Row, position: i64) -> Changed

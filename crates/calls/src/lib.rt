@@ -3,6 +3,3 @@ pub mod answer; // answer.rt: what a call makes of a row, and what it answers
 pub mod setup; // setup.rt: setup and erase
 pub mod change; // change.rt: preset, arm and acknowledge
 pub mod view; // view.rt: view
-pub mod reading; // reading.rt: a reading of a narrow counter
-pub mod speed; // speed.rt: speed by period
-pub mod saving; // saving.rt: save and restore

@@ -6,10 +6,10 @@ ghost use Rattle.calls.specs.Calls.{Positioned, viewRow};
 use crate::answer::View;
 use crate::answer::Viewed;
 use axis::row::Row;
-use sound::Status;
-use sound::classify;
 use axis::unpack::unpack;
 use refusal::Refusal;
+use sound::Status;
+use sound::classify;
 
 // What a row shows.
 fn shown(r: Row) -> View

@@ -23,7 +23,8 @@ use Rattle.record.specs.declared.answer.Written.the-variants.{Bytes, Refused as
 use Rattle.record.proofs.AnswerLaws.{save-told}
 use Rattle.record.proofs.RecordLaws.{written-shape}
 use Rattle.calls.specs.Answer.{viewValue}
-use Rattle.calls.specs.Calls.{byStatus, savedOf, saveRow}
+use Rattle.calls.specs.Calls.{byStatus}
+use Rattle.keeping.specs.Saving.{savedOf, saveRow}
 use Rattle.calls.specs.declared.answer.Done.{Done}
 use Rattle.calls.specs.declared.answer.Viewed.{Viewed}
 use Rattle.calls.proofs.AnswerLaws.{done-told, view-told}

@@ -1,5 +1,5 @@
 -- The laws of the exports: a table's claim as C sees it, and one outcome for each.
-use mathlib.Core.Path.{_≡_, sym, ap, _∙_}
+use mathlib.Core.Path.{_≡_, ap, _∙_}
 use mathlib.Core.List.{List}
 use Prim.Native.Nat.{ℕ}
 use Rattle.refusal.proofs.OutcomeLaws.{one}

@@ -5,7 +5,8 @@ use mathlib.Core.List.{List}
 use lib.ListN.{length}
 use Rattle.axis.specs.declared.row.Row.{Row}
 use Rattle.calls.specs.Answer.{doneOf}
-use Rattle.calls.specs.Calls.{readRow, savedIn}
+use Rattle.keeping.specs.Saving.{savedIn}
+use Rattle.counter.specs.Reading.{readRow}
 use Rattle.calls.specs.declared.answer.Changed.{Changed}
 use Rattle.rows.specs.Located.{located, onFound}
 use Rattle.table.specs.Port.{sampledTable, sampledAnswer}

@@ -1,5 +1,5 @@
 // Save and restore.
-ghost use Rattle.calls.specs.Calls.{restoreRow};
+ghost use Rattle.keeping.specs.Saving.{restoreRow};
 ghost use Rattle.face.specs.Call.{MakesToC, SavesToC};
 use crate::answer::of_done;
 use crate::answer::of_written;

@@ -21,10 +21,11 @@ use Rattle.record.specs.declared.answer.Saved.{Saved}
 use Rattle.record.specs.declared.answer.Read.the-variants.{Accepted}
 use Rattle.record.proofs.RecordLaws.{accepted-within}
 use Rattle.calls.specs.Change.{changed}
-use Rattle.calls.specs.Calls.{leftBy, armRow, acknowledgeRow, readRow}
-use Rattle.calls.specs.Counter.{newest, shown, rowRead, Gentle, moved}
-use Rattle.calls.proofs.SaveLaws.{within-parts}
-use Rattle.calls.proofs.CounterLaws.{counter-follows, counter-position}
+use Rattle.calls.specs.Calls.{leftBy, armRow, acknowledgeRow}
+use Rattle.counter.specs.Reading.{readRow}
+use Rattle.counter.specs.Counter.{newest, shown, rowRead, Gentle, moved}
+use Rattle.keeping.proofs.SaveLaws.{within-parts}
+use Rattle.counter.proofs.CounterLaws.{counter-follows, counter-position}
 use Rattle.history.specs.Event.{Event, setup, erase, preset, arm, acknowledge, view, reading, speed, save, restore, bits, asked, rowAfter, rowNext, rowSince}
 use Rattle.history.specs.Phase.{phaseOf, afterEvent, afterCall}
 use Rattle.history.specs.Counter.{aside, Reads, none, read, between}

@@ -9,7 +9,7 @@ use Rattle.axis.specs.declared.row.Axis.{Axis}
 use Rattle.motion.specs.Decode.{entry, isE}
 use Rattle.motion.specs.declared.decode.Move.{Move}
 use Rattle.motion.specs.declared.decode.Move.the-variants.{Still, Forward, Back, Double}
-use Rattle.motion.specs.declared.lines.Raw.{Raw}
+use Rattle.lines.specs.declared.Raw.{Raw}
 use Rattle.history.specs.Acts.{Act, sampled}
 use Rattle.history.specs.Levels.{primedAt}
 use Rattle.history.specs.Entries.{codeAt, entryAt, numberOfE, doubleAt}

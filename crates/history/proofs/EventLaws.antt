@@ -21,16 +21,18 @@ use Rattle.axis.specs.declared.row.Row.{Row}
 use Rattle.sound.specs.declared.Status.{Status}
 use Rattle.sound.specs.declared.Status.the-variants.{Empty, Sampled, Counter, Broken}
 use Rattle.sound.proofs.SoundLaws.{counter-gives, packed-again}
-use Rattle.motion.specs.Lines.{rawOf}
+use Rattle.lines.specs.Lines.{rawOf}
 use Rattle.sample.specs.Step.{stepBy, stepRow}
 use Rattle.record.specs.Record.{readAs}
 use Rattle.record.specs.declared.answer.Read.{Read}
 use Rattle.record.specs.declared.answer.Read.the-variants.{Accepted, Refused as Unread}
 use Rattle.record.proofs.RecordLaws.{accepted-within}
-use Rattle.calls.specs.Change.{changed, readAxis}
-use Rattle.calls.specs.Calls.{byStatus, leftBy, configOf, setupRow, eraseRow, placeRow, presetRow, armRow, acknowledgeRow, readingOf, readingRow, storedRow, readRow, restoredBy, restoreRow}
+use Rattle.calls.specs.Change.{changed}
+use Rattle.counter.specs.Reading.{readAxis, readingOf, readingRow, storedRow, readRow}
+use Rattle.calls.specs.Calls.{byStatus, leftBy, configOf, setupRow, eraseRow, placeRow, presetRow, armRow, acknowledgeRow}
+use Rattle.keeping.specs.Saving.{restoredBy, restoreRow}
 use Rattle.calls.specs.declared.answer.Changed.the-variants.{To, Kept}
-use Rattle.calls.proofs.SaveLaws.{within-parts}
+use Rattle.keeping.proofs.SaveLaws.{within-parts}
 use Rattle.history.specs.Acts.{Act, act, sampled, Accepted as Agreed}
 use Rattle.history.specs.Acts.{preset as placed, arm as armed, acknowledge as acknowledged}
 use Rattle.history.specs.Told.{told}

@@ -7,10 +7,10 @@ use lib.IntN.{_+ℤ_}
 use Rattle.position.specs.Position.{positionOf}
 use Rattle.position.proofs.PositionLaws.{position-word}
 use Rattle.axis.specs.declared.row.Axis.{Axis}
-use Rattle.motion.specs.Lines.{Wire, line}
+use Rattle.lines.specs.Lines.{Wire, line}
 use Rattle.sample.specs.Step.{stepAxis}
-use Rattle.motion.specs.declared.lines.Line.{Line}
-use Rattle.motion.specs.declared.lines.Raw.{Raw}
+use Rattle.lines.specs.declared.Line.{Line}
+use Rattle.lines.specs.declared.Raw.{Raw}
 use Rattle.sample.specs.declared.step.Stepped.{Stepped}
 use Rattle.history.specs.Acts.{Act, after, Legal}
 use Rattle.history.specs.Start.{Start}

@@ -19,7 +19,8 @@ use Rattle.sample.proofs.RowLaws.{broken-stays}
 use Rattle.record.specs.Record.{readAs}
 use Rattle.record.specs.declared.answer.Read.{Read}
 use Rattle.record.specs.declared.answer.Read.the-variants.{Accepted, Refused as Unread}
-use Rattle.calls.specs.Calls.{leftBy, storedRow, readRow}
+use Rattle.calls.specs.Calls.{leftBy}
+use Rattle.counter.specs.Reading.{storedRow, readRow}
 use Rattle.history.specs.Event.{Op, Event, setup, erase, preset, arm, acknowledge, view, reading, speed, save, restore, bits, asked, rowAfter, Refused, rowNext, rowSince}
 use Rattle.history.specs.Phase.{Phase, moved, bySort, readTo, restoredTo, afterCall, afterEvent, phaseOf, toldBy, toldRow, marksOf}
 use Rattle.history.specs.Lasting.{isRead, begins, Lasting}

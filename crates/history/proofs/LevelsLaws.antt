@@ -5,10 +5,10 @@ use mathlib.Core.List.{List, [], _∷_}
 use Prim.Native.Nat.{_<_}
 use native.Mathlib.Omega.{arith}
 use Rattle.axis.specs.declared.row.Axis.{Axis}
-use Rattle.motion.specs.Lines.{Wire, A, B, Z, placeOf, levelOf, line}
-use Rattle.motion.specs.Filter.{filtered}
-use Rattle.motion.specs.declared.lines.Line.{Line}
-use Rattle.motion.specs.declared.lines.Raw.{Raw}
+use Rattle.lines.specs.Lines.{Wire, A, B, Z, placeOf, levelOf, line}
+use Rattle.lines.specs.Filter.{filtered}
+use Rattle.lines.specs.declared.Line.{Line}
+use Rattle.lines.specs.declared.Raw.{Raw}
 use Rattle.history.specs.Acts.{Act, sampled}
 use Rattle.history.specs.Start.{Start}
 use Rattle.history.specs.Latest.{streak, latest}

@@ -11,8 +11,10 @@ use Rattle.sound.specs.declared.Status.{Status}
 use Rattle.sound.specs.declared.Status.the-variants.{Empty, Sampled, Counter, Broken}
 use Rattle.sound.proofs.SoundLaws.{sampled-gives, counter-gives}
 use Rattle.sample.specs.After.{Configured}
-use Rattle.calls.specs.Change.{changed, presetAxis, readAxis, Holds}
-use Rattle.calls.proofs.ChangeLaws.{sampled-holds, counter-holds, read-at, read-kept}
+use Rattle.calls.specs.Change.{changed, presetAxis, Holds}
+use Rattle.counter.specs.Reading.{readAxis}
+use Rattle.calls.proofs.ChangeLaws.{sampled-holds, counter-holds}
+use Rattle.counter.proofs.ReadingLaws.{read-at, read-kept}
 use Rattle.calls.proofs.SetupLaws.{config-holds, erase-makes}
 use Rattle.history.specs.Told.{told}
 use Rattle.history.specs.Phase.{Phase, toldBy, toldRow}

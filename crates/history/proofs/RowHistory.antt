@@ -8,10 +8,11 @@ use Rattle.axis.specs.declared.row.Axis.{Axis}
 use Rattle.axis.specs.declared.row.Row.{Row}
 use Rattle.sound.specs.declared.Status.{Status}
 use Rattle.sound.specs.declared.Status.the-variants.{Empty, Sampled, Counter, Broken}
-use Rattle.motion.specs.Lines.{rawOf}
+use Rattle.lines.specs.Lines.{rawOf}
 use Rattle.sample.specs.Step.{stepAxis, packed, stepBy, stepRow}
 use Rattle.sample.specs.declared.step.Stepped.{Stepped}
-use Rattle.calls.specs.Change.{readAxis, Holds}
+use Rattle.calls.specs.Change.{Holds}
+use Rattle.counter.specs.Reading.{readAxis}
 use Rattle.history.specs.Event.{Event, rowNext, rowSince}
 use Rattle.history.specs.Told.{told, answered}
 use Rattle.history.specs.Phase.{phaseOf, toldRow, marksOf, markedBy, toldMarks}

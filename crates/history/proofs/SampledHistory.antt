@@ -10,7 +10,7 @@ use Rattle.sound.specs.Sound.{statusOf}
 use Rattle.axis.specs.declared.row.Axis.{Axis}
 use Rattle.axis.specs.declared.row.Row.{Row}
 use Rattle.sound.specs.declared.Status.the-variants.{Sampled}
-use Rattle.motion.specs.Lines.{Wire, rawOf, line}
+use Rattle.lines.specs.Lines.{Wire, rawOf, line}
 use Rattle.sample.specs.Step.{stepRow}
 use Rattle.history.specs.Acts.{after, Legal}
 use Rattle.history.specs.Start.{Start}

@@ -4,15 +4,15 @@ use mathlib.Core.Bool.{true, _&&_}
 use mathlib.Core.List.{List, [], _∷_}
 use Rattle.position.specs.Position.{inRange, wordOf, positionOf}
 use Rattle.axis.specs.declared.row.Axis.{Axis}
-use Rattle.motion.specs.Lines.{Wire, A, B, Z, placeOf, line}
-use Rattle.motion.specs.Filter.{filtered}
+use Rattle.lines.specs.Lines.{Wire, A, B, Z, placeOf, line}
+use Rattle.lines.specs.Filter.{filtered}
 use Rattle.motion.specs.Decode.{moveTo, entry, isE}
 use Rattle.motion.specs.Index.{rises}
 use Rattle.motion.specs.Count.{countedWord}
 use Rattle.sample.specs.Step.{settle, outcome}
 use Rattle.motion.specs.declared.decode.Move.{Move}
-use Rattle.motion.specs.declared.lines.Line.{Line}
-use Rattle.motion.specs.declared.lines.Raw.{Raw}
+use Rattle.lines.specs.declared.Line.{Line}
+use Rattle.lines.specs.declared.Raw.{Raw}
 use Rattle.history.specs.Acts.{Act, sampled}
 use Rattle.history.specs.Start.{Start}
 use Rattle.history.specs.Levels.{primedAt, levelAt, runAt, roseAt}

@@ -14,7 +14,7 @@ use Rattle.fields.specs.Field.{flagOf}
 use Rattle.position.specs.Position.{positionOf}
 use Rattle.axis.specs.Kind.{X4}
 use Rattle.axis.specs.declared.row.Axis.{Axis}
-use Rattle.motion.specs.Lines.{A, B, levelOf}
+use Rattle.lines.specs.Lines.{A, B, levelOf}
 use Rattle.motion.specs.Decode.{code, x4, tableOf, entryIn, entry, worth, isE}
 use Rattle.sample.specs.Step.{stepAxis}
 use Rattle.motion.specs.declared.decode.Move.{Move}

@@ -14,7 +14,7 @@ use Rattle.axis.specs.declared.row.Axis.{Axis}
 use Rattle.axis.specs.declared.row.Row.{Row}
 use Rattle.sound.specs.declared.Status.the-variants.{Sampled}
 use Rattle.sound.proofs.SoundLaws.{sampled-gives}
-use Rattle.motion.specs.Lines.{Wire, A, B, Z, placeOf, line}
+use Rattle.lines.specs.Lines.{Wire, A, B, Z, placeOf, line}
 use Rattle.history.specs.Acts.{Act, act, after, Legal}
 use Rattle.history.specs.Start.{Start}
 use Rattle.history.specs.Tally.{positionAt}

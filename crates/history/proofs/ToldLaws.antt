@@ -9,9 +9,9 @@ use lib.ListN.{getD, length}
 use Rattle.position.specs.Position.{inRange}
 use Rattle.position.proofs.PositionLaws.{position-in-range, word-position}
 use Rattle.axis.specs.declared.row.Axis.{Axis}
-use Rattle.motion.specs.Lines.{A, B, Z, placeOf, line}
+use Rattle.lines.specs.Lines.{A, B, Z, placeOf, line}
 use Rattle.sample.specs.Step.{outcome, stepAxis}
-use Rattle.motion.specs.declared.lines.Raw.{Raw}
+use Rattle.lines.specs.declared.Raw.{Raw}
 use Rattle.sample.specs.declared.step.Stepped.{Stepped}
 use Rattle.history.specs.Acts.{Act, sampled, preset, arm, acknowledge, act, after, Legal}
 use Rattle.calls.specs.Change.{changed}

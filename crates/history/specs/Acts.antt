@@ -8,7 +8,7 @@ use Rattle.position.specs.Position.{inRange}
 use Rattle.axis.specs.declared.row.Axis.{Axis}
 use Rattle.sample.specs.Step.{stepAxis}
 use Rattle.calls.specs.Change.{presetAxis, armAxis, acknowledgeAxis}
-use Rattle.motion.specs.declared.lines.Raw.{Raw}
+use Rattle.lines.specs.declared.Raw.{Raw}
 
 -- A sample, or a call that leaves the configuration alone.
 pub data Act : Type 0 where

@@ -4,7 +4,7 @@ use mathlib.Core.Path.{_≡_}
 use mathlib.Core.Bool.{Bool, true, false}
 use mathlib.Core.List.{List, [], _∷_}
 use lib.IntN.{ℤ}
-use Rattle.calls.specs.Counter.{shown}
+use Rattle.counter.specs.Counter.{shown}
 use Rattle.history.specs.Event.{Event, setup, erase, preset, arm, acknowledge, view, reading, speed, save, restore, bits, asked}
 
 -- Whether an event leaves every counter alone: a sample, a call for sampled rows only, or a call that only looks.

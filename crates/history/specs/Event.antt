@@ -9,7 +9,10 @@ use Rattle.reckon.specs.declared.Reckoned.the-variants.{Refused as Unreckoned}
 use Rattle.axis.specs.declared.row.Row.{Row}
 use Rattle.sample.specs.Step.{stepRow}
 use Rattle.record.specs.declared.answer.Written.the-variants.{Refused as Unwritten}
-use Rattle.calls.specs.Calls.{leftBy, setupRow, eraseRow, presetRow, armRow, acknowledgeRow, viewRow, readingRow, readRow, speedRow, saveRow, restoreRow}
+use Rattle.calls.specs.Calls.{leftBy, setupRow, eraseRow, presetRow, armRow, acknowledgeRow, viewRow}
+use Rattle.keeping.specs.Saving.{saveRow, restoreRow}
+use Rattle.speed.specs.Speed.{speedRow}
+use Rattle.counter.specs.Reading.{readingRow, readRow}
 use Rattle.calls.specs.declared.answer.Changed.the-variants.{Kept}
 use Rattle.calls.specs.declared.answer.Viewed.the-variants.{Refused as Unseen}
 

@@ -4,7 +4,7 @@ use mathlib.Core.List.{List, [], _∷_}
 use lib.IntN.{ℤ}
 use Rattle.axis.specs.declared.row.Axis.{Axis}
 use Rattle.motion.specs.Index.{offTurn}
-use Rattle.motion.specs.declared.lines.Raw.{Raw}
+use Rattle.lines.specs.declared.Raw.{Raw}
 use Rattle.history.specs.Acts.{Act, sampled, preset, arm, acknowledge}
 use Rattle.history.specs.Levels.{roseAt}
 use Rattle.history.specs.Entries.{entryAt}

@@ -15,12 +15,12 @@ use Rattle.axis.specs.declared.row.Axis.{Axis}
 use Rattle.axis.specs.declared.row.Row.{Row}
 use Rattle.sound.specs.declared.Status.{Status}
 use Rattle.sound.specs.declared.Status.the-variants.{Empty, Sampled, Counter, Broken}
-use Rattle.motion.specs.Lines.{rawOf}
+use Rattle.lines.specs.Lines.{rawOf}
 use Rattle.sample.specs.declared.step.SteppedRow.{SteppedRow}
 use Rattle.record.specs.Record.{readAs}
 use Rattle.record.specs.declared.answer.Read.{Read}
 use Rattle.record.specs.declared.answer.Read.the-variants.{Accepted, Refused as Unread}
-use Rattle.calls.specs.Change.{readAxis}
+use Rattle.counter.specs.Reading.{readAxis}
 use Rattle.calls.specs.Calls.{configOf}
 use Rattle.history.specs.Acts.{Act, sampled}
 use Rattle.history.specs.Acts.{preset as placed, arm as armed, acknowledge as acknowledged}

@@ -2,8 +2,8 @@
 use mathlib.Core.List.{List, [], _∷_}
 use Rattle.position.specs.Position.{wordOf}
 use Rattle.axis.specs.declared.row.Axis.{Axis}
-use Rattle.motion.specs.Lines.{A, B, Z}
-use Rattle.motion.specs.declared.lines.Raw.{Raw}
+use Rattle.lines.specs.Lines.{A, B, Z}
+use Rattle.lines.specs.declared.Raw.{Raw}
 use Rattle.sample.specs.declared.step.Stepped.{Stepped}
 use Rattle.history.specs.Acts.{Act, sampled}
 use Rattle.history.specs.Levels.{primedAt, levelAt, runAt, roseAt}

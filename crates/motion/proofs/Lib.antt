@@ -1,5 +1,4 @@
 pub mod Check
-pub mod FilterLaws
 pub mod DecodeLaws
 pub mod TableLaws
 pub mod CountLaws

@@ -8,8 +8,8 @@ use lib.IntN.{ℤ, pos, negsuc}
 use Rattle.fields.specs.Field.{bitOf}
 use Rattle.axis.specs.Kind.{X2, X4}
 use Rattle.axis.specs.declared.row.Axis.{Axis}
-use Rattle.motion.specs.Lines.{Wire, A, B, line}
-use Rattle.motion.specs.declared.lines.Line.{Line}
+use Rattle.lines.specs.Lines.{Wire, A, B, line}
+use Rattle.lines.specs.declared.Line.{Line}
 use Rattle.motion.specs.declared.decode.Move.{Move}
 use Rattle.motion.specs.declared.decode.Move.the-variants.{Still, Forward, Back, Double}
 

@@ -4,8 +4,8 @@ use mathlib.Core.Bool.{Bool, not, _&&_}
 use lib.Dec.{eqb, ltb}
 use lib.IntN.{ℤ, natAbs}
 use Rattle.axis.specs.declared.row.Axis.{Axis}
-use Rattle.motion.specs.Lines.{Wire, Z, line}
-use Rattle.motion.specs.declared.lines.Line.{Line}
+use Rattle.lines.specs.Lines.{Wire, Z, line}
+use Rattle.lines.specs.declared.Line.{Line}
 
 -- Filtered Z goes from 0 to 1 where the lines of an axis become n.
 unfoldable pub rises : Axis → (Wire → Line) → Bool

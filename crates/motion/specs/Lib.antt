@@ -1,5 +1,3 @@
-pub mod Lines
-pub mod Filter
 pub mod Decode
 pub mod Count
 pub mod Pace

@@ -1,11 +1,11 @@
 // The three transition tables, old code by new code.
 ghost use mathlib.Core.Path.{_≡_};
 ghost use Prim.Native.Nat.{_<_};
-ghost use Rattle.motion.specs.Lines.{three};
+ghost use Rattle.lines.specs.Lines.{three};
 ghost use Rattle.motion.specs.Decode.{code, entryIn, mark, isE, moveTo};
-use crate::lines::Lines;
 use axis::kind::Kind;
 use axis::row::Axis;
+use lines::Lines;
 
 // An entry of a transition table.
 pub enum Move {

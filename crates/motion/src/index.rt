@@ -4,10 +4,10 @@ ghost use mathlib.Core.Bool.{cond, _&&_, _||_};
 ghost use Prim.Native.Nat.{_^_};
 ghost use lib.IntN.{natAbs};
 ghost use Rattle.position.specs.Position.{positionOf};
-ghost use Rattle.motion.specs.Lines.{three};
+ghost use Rattle.lines.specs.Lines.{three};
 ghost use Rattle.motion.specs.Index.{rises, offTurn};
-use crate::lines::Lines;
 use axis::row::Axis;
+use lines::Lines;
 
 // The word of position 0.
 const MIDDLE: u64 = 0x4000_0000_0000_0000;

@@ -1,12 +1,10 @@
 -- Demand 3: axes are apart.
-use mathlib.Core.Path.{_≡_, sym, ap, _∙_}
+use mathlib.Core.Path.{_≡_, sym, _∙_}
 use mathlib.Core.List.{List}
 use Prim.Native.Nat.{ℕ, _<_}
 use lib.ListN.{length}
-use Rattle.axis.specs.declared.row.Row.{Row}
-use Rattle.history.specs.Event.{Event}
 use Rattle.rows.specs.Table.{axesIn, rowAt}
-use Rattle.promises.specs.Runs.{Call, tableRun, heard, rows, events, rowRun, tolds, rowsFrom}
+use Rattle.promises.specs.Runs.{Call, tableRun, heard, rows, events}
 use Rattle.promises.proofs.RunLaws.{alone}
 
 -- What two runs agree on for axis k.

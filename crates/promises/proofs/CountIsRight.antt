@@ -3,14 +3,14 @@ use mathlib.Core.Path.{_≡_, refl, sym, ap, _∙_}
 use mathlib.Core.Bool.{false}
 use mathlib.Core.List.{List, [], _∷_, reverse, reverseAux}
 use Prim.Native.Nat.{ℕ, _+_, _<_, min}
-use lib.IntN.{ℤ, _+ℤ_}
+use lib.IntN.{_+ℤ_}
 use lib.ListN.{length}
 use Rattle.position.specs.Position.{positionOf}
 use Rattle.axis.specs.Row.{axisOf}
 use Rattle.sound.specs.Sound.{statusOf}
 use Rattle.axis.specs.declared.row.Row.{Row}
 use Rattle.sound.specs.declared.Status.the-variants.{Sampled, Counter}
-use Rattle.history.specs.Event.{Event, rowNext, rowSince}
+use Rattle.history.specs.Event.{Event, rowSince}
 use Rattle.history.specs.Phase.{phaseOf, toldRow, startAxis, actsSince}
 use Rattle.history.specs.Entries.{numberOfE}
 use Rattle.history.specs.Tally.{Tally, Place, placeTally, doublesTally, sum}

@@ -11,7 +11,7 @@ use Rattle.axis.specs.Row.{axisOf}
 use Rattle.sound.specs.Sound.{statusOf}
 use Rattle.axis.specs.declared.row.Row.{Row}
 use Rattle.sound.specs.declared.Status.the-variants.{Sampled}
-use Rattle.motion.specs.Lines.{rawOf}
+use Rattle.lines.specs.Lines.{rawOf}
 use Rattle.sample.proofs.RowLaws.{axis-after}
 use Rattle.sample.proofs.StepLaws.{priming}
 use Rattle.rows.specs.Table.{axesIn, rowAt}

@@ -1,5 +1,5 @@
 -- Save and restore on a table.
-use mathlib.Core.Path.{_≡_, refl, sym, ap, _∙_}
+use mathlib.Core.Path.{_≡_, sym, _∙_}
 use mathlib.Core.List.{List, _++_}
 use Prim.Native.Nat.{ℕ, _≤_, _<_}
 use lib.ListN.{length, take, drop}
@@ -10,10 +10,10 @@ use Rattle.record.specs.Record.{readAs}
 use Rattle.record.specs.declared.answer.Saved.{Saved}
 use Rattle.record.specs.declared.answer.Read.the-variants.{Accepted}
 use Rattle.record.specs.declared.answer.Written.the-variants.{Bytes}
-use Rattle.calls.specs.Calls.{setupRow, presetRow, restoreRow, saveRow, savedIn, savedOf, andThen, leftBy}
-use Rattle.calls.specs.declared.answer.Changed.{Changed}
+use Rattle.calls.specs.Calls.{setupRow, presetRow, andThen}
+use Rattle.keeping.specs.Saving.{restoreRow, saveRow, savedIn, savedOf}
 use Rattle.calls.specs.declared.answer.Changed.the-variants.{To}
-use Rattle.calls.proofs.SaveLaws.{restore-is, restored-save, saved-restore}
+use Rattle.keeping.proofs.SaveLaws.{restore-is, restored-save, saved-restore}
 use Rattle.rows.specs.Table.{axesIn, rowAt}
 use Rattle.table.specs.Call.{ruled, tableAfter}
 use Rattle.promises.proofs.RunLaws.{ruled-is, by-rule}

@@ -8,25 +8,23 @@ use native.Mathlib.Omega.{arith}
 use borrow.Author.Tests.{eqb-true, eqb-false}
 use lib.Dec.{eqb}
 use lib.ListN.{length, replicate, length-replicate}
-use Rattle.fields.specs.Field.{flagOf}
 use Rattle.axis.specs.declared.row.Row.{Row}
 use Rattle.sample.specs.Step.{stepRow}
 use Rattle.record.specs.declared.answer.Written.{Written}
-use Rattle.calls.specs.Answer.{doneOf}
-use Rattle.calls.specs.Calls.{setupRow, eraseRow, presetRow, armRow, acknowledgeRow, viewRow, readingRow, readRow, speedRow, saveRow, savedIn, restoreRow, leftBy}
+use Rattle.calls.specs.Calls.{setupRow, eraseRow, presetRow, armRow, acknowledgeRow, leftBy}
+use Rattle.keeping.specs.Saving.{restoreRow}
+use Rattle.counter.specs.Reading.{readRow}
 use Rattle.calls.specs.declared.answer.Changed.{Changed}
 use Rattle.calls.specs.declared.answer.Changed.the-variants.{To, Kept}
-use Rattle.history.specs.Event.{Op, Event, setup, erase, preset, arm, acknowledge, view, reading, speed, save, restore, bits, asked, rowAfter, rowNext}
+use Rattle.history.specs.Event.{Op, Event, setup, erase, preset, arm, acknowledge, view, reading, speed, save, restore, asked, rowAfter, rowNext}
 use Rattle.history.specs.Phase.{marksOf}
-use Rattle.rows.specs.Table.{axesIn, rowAt, setRow}
-use Rattle.table.specs.Port.{nibble, sampledTable, sampledAnswer}
-use Rattle.rows.specs.Located.{located, onFound}
+use Rattle.rows.specs.Table.{axesIn, rowAt}
+use Rattle.table.specs.Port.{nibble, sampledAnswer}
 use Rattle.table.specs.Call.{ruled, tableAfter}
 use Rattle.rows.proofs.TableLaws.{axes-fit, row-same}
 use Rattle.rows.proofs.LocatedLaws.{found-at}
 use Rattle.table.proofs.PortLaws.{sample-length, sample-row, sample-bits, sample-refused}
 use Rattle.table.proofs.CallLaws.{makes-spares}
-use Rattle.table.specs.declared.port.Masks.{Masks}
 use Rattle.table.specs.declared.port.Sampled.{Sampled}
 use Rattle.table.specs.declared.port.Sampled.the-variants.{Seen, Refused as Unsampled}
 use Rattle.promises.specs.Runs.{Call, port, names, tableBy, tableNext, tableRun, Told, marks, wrote, bitsOf, answerIn, heardOf, heard, rowsOf, rows, seen, eventOf, events, rowRun, answerOf, toldOf, tolds, rowsFrom}

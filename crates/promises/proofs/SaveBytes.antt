@@ -1,7 +1,7 @@
 -- The bytes that a save writes do not depend on what its buffer held.
-use mathlib.Core.Path.{_≡_, refl, sym, ap, _∙_}
-use mathlib.Core.Bool.{Bool, true, false, cond, _&&_}
-use mathlib.Core.List.{List, [], _∷_, _++_}
+use mathlib.Core.Path.{_≡_, refl, sym, _∙_}
+use mathlib.Core.Bool.{true, cond, _&&_}
+use mathlib.Core.List.{List, []}
 use Prim.Native.Nat.{ℕ, _≤_}
 use borrow.Author.Tests.{leb-true}
 use lib.Dec.{leb}
@@ -16,7 +16,7 @@ use Rattle.sound.specs.declared.Status.the-variants.{Empty, Sampled, Counter, B
 use Rattle.record.specs.Record.{within, recordOf, savedAs, written}
 use Rattle.record.specs.declared.answer.Saved.{Saved}
 use Rattle.record.proofs.RecordLaws.{saved-front}
-use Rattle.calls.specs.Calls.{savedOf, saveRow, savedIn}
+use Rattle.keeping.specs.Saving.{savedOf, saveRow, savedIn}
 use Rattle.promises.specs.Runs.{writtenIn}
 
 -- Of what a record says: the bytes written are the record, where it fits.

@@ -1,28 +1,28 @@
 -- Runs of calls on a table, and what one axis has of them: document 01, the calls of every section.
-use Prim.Native.Nat.{ℕ, _<_, _^_}
+use Prim.Native.Nat.{ℕ}
 use mathlib.Core.Bool.{cond}
 use mathlib.Core.List.{List, [], _∷_, _++_}
 use lib.Dec.{eqb}
-use lib.ListN.{length, take, replicate, getD}
-use Rattle.refusal.specs.declared.Refusal.{Refusal}
+use lib.ListN.{length, take, replicate}
 use Rattle.reckon.specs.declared.Reckoned.{Reckoned}
 use Rattle.fields.specs.Field.{flagOf}
 use Rattle.axis.specs.declared.row.Row.{Row}
 use Rattle.sample.specs.Step.{stepRow}
-use Rattle.sample.specs.declared.step.SteppedRow.{SteppedRow}
 use Rattle.record.specs.declared.answer.Written.{Written}
 use Rattle.record.specs.declared.answer.Written.the-variants.{Bytes, Refused as Unwritten}
 use Rattle.calls.specs.Answer.{doneOf}
-use Rattle.calls.specs.Calls.{setupRow, eraseRow, presetRow, armRow, acknowledgeRow, viewRow, readingRow, readRow, speedRow, saveRow, savedIn, restoreRow}
+use Rattle.calls.specs.Calls.{setupRow, eraseRow, presetRow, armRow, acknowledgeRow, viewRow}
+use Rattle.keeping.specs.Saving.{saveRow, savedIn, restoreRow}
+use Rattle.speed.specs.Speed.{speedRow}
+use Rattle.counter.specs.Reading.{readingRow, readRow}
 use Rattle.calls.specs.declared.answer.Done.{Done}
 use Rattle.calls.specs.declared.answer.Viewed.{Viewed}
 use Rattle.history.specs.Event.{Op, Event, setup, erase, preset, arm, acknowledge, view, reading, speed, save, restore, bits, asked, rowNext}
 use Rattle.history.specs.Phase.{Marks, marksOf}
-use Rattle.rows.specs.Table.{axesIn, rowAt}
+use Rattle.rows.specs.Table.{rowAt}
 use Rattle.table.specs.Port.{nibble, sampledTable, sampledAnswer}
 use Rattle.rows.specs.Located.{located, onFound}
 use Rattle.table.specs.Call.{ruled, tableAfter, viewedIn, readIn, speedIn, saveIn}
-use Rattle.table.specs.declared.port.Masks.{Masks}
 use Rattle.table.specs.declared.port.Sampled.{Sampled}
 use Rattle.table.specs.declared.port.Sampled.the-variants.{Seen, Refused as Unsampled}
 

@@ -5,7 +5,7 @@ use libc::STDOUT_FILENO;
 use reckon::Reckoned;
 use record::answer::Written;
 use refusal::Refusal;
-use tracing::text::size;
+use text::put::size;
 
 fn text(bytes: &[u8]) {
     io::write_all(STDOUT_FILENO, bytes);

@@ -1,5 +1,4 @@
 // Arithmetic on plain numbers, with no table: widening a narrow reading, and speed by count.
-ghost use mathlib.Core.Path.{_≡_};
 
 pub mod widening; // widening.rt: a narrow counter's reading
 pub mod speed; // speed.rt: division to the nearest, and speed by count

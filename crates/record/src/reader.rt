@@ -4,21 +4,21 @@ ghost use Rattle.record.specs.Record.{unopened, endedAt, counterAt, samp
 use crate::answer::Read;
 use crate::answer::Saved;
 use crate::answer::Tested;
+use crate::limits::is_within;
 use crate::opening::DEPTH;
 use crate::opening::END;
-use tagged::field::Field;
 use crate::opening::KIND;
 use crate::opening::LAYOUT;
 use crate::opening::POSITION;
 use crate::opening::TURN;
 use crate::opening::WIDTH;
 use crate::opening::opens;
-use tagged::field::read_field;
-use crate::limits::is_within;
-use tagged::twos::of_bits;
 use axis::config::Config;
 use axis::kind::Kind;
 use refusal::Refusal;
+use tagged::field::Field;
+use tagged::field::read_field;
+use tagged::twos::of_bits;
 
 // Why a slice without the opening is refused.
 fn why_unopened(slice: &[u8]) -> Refusal

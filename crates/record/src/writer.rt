@@ -6,18 +6,18 @@ ghost use lib.Seq.{sets};
 ghost use Rattle.record.specs.Record.{headBytes, counterBytes, sampledBytes, Saves};
 use crate::answer::Saved;
 use crate::answer::Written;
+use crate::limits::is_within;
 use crate::opening::DEPTH;
 use crate::opening::END;
 use crate::opening::KIND;
 use crate::opening::POSITION;
 use crate::opening::TURN;
 use crate::opening::WIDTH;
-use tagged::field::put_field;
 use crate::opening::put_opening;
-use crate::limits::is_within;
-use tagged::twos::bits_of;
 use axis::kind::Kind;
 use refusal::Refusal;
+use tagged::field::put_field;
+use tagged::twos::bits_of;
 
 // The opening, the kind and the position.
 fn put_head(buf: &mut [u8], kind: u64, bits: u64)

@@ -6,14 +6,14 @@ use lib.Dec.{ltb, lit<}
 use borrow.Author.Tests.{ltb-true}
 use Rattle.axis.specs.declared.row.Axis.{Axis}
 use Rattle.sound.specs.Sound.{SampledAxis}
-use Rattle.motion.specs.Lines.{A, B, Z, placeOf, levelOf, line}
-use Rattle.motion.specs.Filter.{filtered, Short}
+use Rattle.lines.specs.Lines.{A, B, Z, placeOf, levelOf, line}
+use Rattle.lines.specs.Filter.{filtered, Short}
 use Rattle.motion.specs.Decode.{moveTo}
 use Rattle.motion.specs.Count.{Reach}
 use Rattle.motion.specs.Index.{rises, offTurn}
 use Rattle.sample.specs.Step.{primedBy, settle, advanced, outcome, stepAxis}
-use Rattle.motion.specs.declared.lines.Raw.{Raw}
-use Rattle.motion.proofs.FilterLaws.{filter-short}
+use Rattle.lines.specs.declared.Raw.{Raw}
+use Rattle.lines.proofs.FilterLaws.{filter-short}
 use Rattle.motion.proofs.CountLaws.{count-reach, doubles-below}
 use Rattle.motion.proofs.PaceLaws.{direction-below, age-below, period-below, resting}
 

@@ -12,9 +12,9 @@ use Rattle.axis.specs.Row.{axisOf, Words}
 use Rattle.sound.specs.Sound.{statusOf, SampledAxis}
 use Rattle.axis.proofs.RowLaws.{comes-back, held-words}
 use Rattle.sound.proofs.SoundLaws.{sampled-gives, sampled-from, sampled-held}
-use Rattle.motion.specs.Lines.{rawOf}
+use Rattle.lines.specs.Lines.{rawOf}
 use Rattle.sample.specs.Step.{stepAxis, packed, kept, stepBy, stepRow}
-use Rattle.motion.specs.declared.lines.Raw.{Raw}
+use Rattle.lines.specs.declared.Raw.{Raw}
 use Rattle.sample.specs.declared.step.SteppedRow.{SteppedRow}
 use Rattle.sample.proofs.KeepLaws.{keep-step}
 

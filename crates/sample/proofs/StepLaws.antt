@@ -4,15 +4,15 @@ use mathlib.Core.Bool.{Bool, true, false, _&&_, and-true, and-false, or-true, or
 use lib.IntN.{_+ℤ_}
 use Rattle.position.specs.Position.{positionOf}
 use Rattle.axis.specs.declared.row.Axis.{Axis}
-use Rattle.motion.specs.Lines.{Wire, A, B, Z, placeOf, levelOf, line, three}
-use Rattle.motion.specs.Filter.{filtered, linesBy}
+use Rattle.lines.specs.Lines.{Wire, A, B, Z, placeOf, levelOf, line, three}
+use Rattle.lines.specs.Filter.{filtered, linesBy}
 use Rattle.motion.specs.Decode.{isE, moveTo, worth}
 use Rattle.motion.specs.Index.{rises}
 use Rattle.sample.specs.Step.{primedBy, settle, moveOf, zRose, advanced, outcome, stepAxis}
 use Rattle.sample.specs.After.{Configured, Primed, Entered, Moved, Homed}
-use Rattle.motion.specs.declared.lines.Line.{Line}
-use Rattle.motion.specs.declared.lines.Lines.{Lines}
-use Rattle.motion.specs.declared.lines.Raw.{Raw}
+use Rattle.lines.specs.declared.Line.{Line}
+use Rattle.lines.specs.declared.Lines.{Lines}
+use Rattle.lines.specs.declared.Raw.{Raw}
 use Rattle.motion.proofs.CountLaws.{counted}
 
 -- Three lines that are read by name are those lines.

@@ -4,14 +4,14 @@ use mathlib.Core.Bool.{true, false, _&&_, _||_}
 use lib.IntN.{pos}
 use Rattle.position.specs.Position.{positionOf}
 use Rattle.axis.specs.declared.row.Axis.{Axis}
-use Rattle.motion.specs.Lines.{Wire, levelOf, line}
+use Rattle.lines.specs.Lines.{Wire, levelOf, line}
 use Rattle.motion.specs.Decode.{moveTo}
 use Rattle.motion.specs.Count.{countedWord, countedRange, countedDoubles}
 use Rattle.motion.specs.Pace.{pacedDirection, pacedAge, pacedPeriod}
 use Rattle.motion.specs.Index.{rises, offTurn}
 use Rattle.sample.specs.Step.{settle}
-use Rattle.motion.specs.declared.lines.Line.{Line}
-use Rattle.motion.specs.declared.lines.Raw.{Raw}
+use Rattle.lines.specs.declared.Line.{Line}
+use Rattle.lines.specs.declared.Raw.{Raw}
 use Rattle.sample.specs.declared.step.Stepped.{Stepped}
 
 -- Two axes of one configuration.

@@ -13,8 +13,8 @@ use Rattle.reckon.specs.declared.Reckoned.the-variants.{Number, Refused as Unre
 use Rattle.record.specs.declared.answer.Written.{Written}
 use Rattle.record.specs.declared.answer.Written.the-variants.{Refused as Unwritten}
 use Rattle.calls.specs.Answer.{doneOf}
-use Rattle.calls.specs.Calls.{readingRow, storedRow, readRow, saveRow, savedIn}
-use Rattle.calls.specs.Change.{readAxis}
+use Rattle.keeping.specs.Saving.{saveRow, savedIn}
+use Rattle.counter.specs.Reading.{readingRow, storedRow, readRow, readAxis}
 use Rattle.calls.specs.declared.answer.Changed.{Changed}
 use Rattle.calls.specs.declared.answer.Changed.the-variants.{To, Kept}
 use Rattle.calls.specs.declared.answer.Done.{Done}

@@ -2,7 +2,7 @@
 use Prim.Native.Nat.{ℕ, _*_, _<_, _≤_}
 use native.Mathlib.Omega.{arith}
 use mathlib.Core.Path.{_≡_, refl, sym, ap}
-use mathlib.Core.Logic.{_≢_, _↔_, _⊎_, inl, inr, ⊎-elim}
+use mathlib.Core.Logic.{_≢_, _↔_, inl, inr, ⊎-elim}
 use mathlib.Core.Bool.{Bool, true, false, cond, _&&_}
 use mathlib.Core.List.{List}
 use lib.Dec.{eqb, leb, ltb, lit<}
@@ -34,7 +34,10 @@ use Rattle.record.specs.declared.answer.Saved.{Saved}
 use Rattle.record.specs.declared.answer.Written.the-variants.{Bytes, Refused as Unwritten}
 use Rattle.record.proofs.OrderLaws.{exactly}
 use Rattle.calls.specs.Answer.{doneOf, doneNumber, viewNumber}
-use Rattle.calls.specs.Calls.{byStatus, setupRow, eraseRow, placeRow, presetRow, armRow, acknowledgeRow, viewRow, readingRow, signOf, spanOf, speedOf, speedRow, savedOf, saveRow, restoreRow, restoredBy}
+use Rattle.calls.specs.Calls.{byStatus, setupRow, eraseRow, placeRow, presetRow, armRow, acknowledgeRow, viewRow}
+use Rattle.keeping.specs.Saving.{savedOf, saveRow, restoreRow, restoredBy}
+use Rattle.speed.specs.Speed.{signOf, spanOf, speedOf, speedRow}
+use Rattle.counter.specs.Reading.{readingRow}
 use Rattle.calls.specs.declared.answer.Changed.{Changed}
 use Rattle.calls.specs.declared.answer.Changed.the-variants.{Kept}
 use Rattle.calls.specs.declared.answer.Done.{Done}

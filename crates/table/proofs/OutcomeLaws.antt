@@ -1,6 +1,6 @@
 -- Each public call's claim admits one outcome, and an answer's numbers tell it: document 01, "Programs that would slip past a lazy claim".
 use Prim.Native.Nat.{ℕ}
-use mathlib.Core.Path.{_≡_, sym, ap, _∙_}
+use mathlib.Core.Path.{_≡_, sym, ap}
 use mathlib.Core.List.{List}
 use Rattle.refusal.proofs.OutcomeLaws.{one}
 use Rattle.refusal.proofs.RefusalLaws.{told-apart, above-zero}

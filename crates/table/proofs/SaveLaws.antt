@@ -19,7 +19,8 @@ use Rattle.record.specs.Record.{within, recordOf, savedAs, written}
 use Rattle.record.specs.declared.answer.Saved.{Saved}
 use Rattle.record.specs.declared.answer.Written.the-variants.{Bytes, Refused as Unwritten}
 use Rattle.record.proofs.RecordLaws.{saved-front, refused-kept}
-use Rattle.calls.specs.Calls.{byStatus, savedOf, saveRow, savedIn}
+use Rattle.calls.specs.Calls.{byStatus}
+use Rattle.keeping.specs.Saving.{savedOf, saveRow, savedIn}
 use Rattle.rows.specs.Table.{axesIn, rowAt}
 use Rattle.rows.specs.Located.{located, onFound}
 use Rattle.table.specs.Call.{Saves, Fronts}

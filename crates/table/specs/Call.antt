@@ -10,7 +10,10 @@ use Rattle.record.specs.declared.answer.Written.{Written}
 use Rattle.record.specs.declared.answer.Written.the-variants.{Refused as Unwritten}
 use Rattle.axis.specs.declared.row.Row.{Row}
 use Rattle.calls.specs.Answer.{doneOf}
-use Rattle.calls.specs.Calls.{viewRow, readingRow, readRow, speedRow, saveRow, savedIn}
+use Rattle.calls.specs.Calls.{viewRow}
+use Rattle.keeping.specs.Saving.{saveRow, savedIn}
+use Rattle.speed.specs.Speed.{speedRow}
+use Rattle.counter.specs.Reading.{readingRow, readRow}
 use Rattle.calls.specs.declared.answer.Changed.{Changed}
 use Rattle.calls.specs.declared.answer.Changed.the-variants.{To, Kept}
 use Rattle.calls.specs.declared.answer.Done.{Done}

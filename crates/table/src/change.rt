@@ -2,9 +2,9 @@
 ghost use Rattle.calls.specs.Calls.{presetRow, armRow, acknowledgeRow};
 ghost use Rattle.table.specs.Call.{Makes};
 use crate::commit::commit;
+use calls::answer::Done;
 use rows::Located;
 use rows::locate;
-use calls::answer::Done;
 
 // Another position: LENGTH, AXIS, BROKEN, EMPTY, VALUE.
 pub fn preset(table: &mut [u64], axis: u64, position: i64) -> Done

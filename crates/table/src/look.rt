@@ -1,10 +1,10 @@
 // View, and speed by period: the calls that only look.
 ghost use mathlib.Core.Path.{_≡_};
 ghost use Rattle.table.specs.Call.{viewedIn, speedIn};
-use rows::Located;
-use rows::locate;
 use calls::answer::Viewed;
 use reckon::Reckoned;
+use rows::Located;
+use rows::locate;
 
 // What an axis shows: LENGTH, AXIS, BROKEN, EMPTY.
 pub fn view(table: &[u64], axis: u64) -> Viewed
@@ -22,6 +22,6 @@ pub fn speed(table: &[u64], axis: u64, rate: u64) -> Reckoned
 {
     match locate(table, axis) {
         Located::Refused(e) => Reckoned::Refused(e),
-        Located::At(row) => calls::speed::speed(row, rate),
+        Located::At(row) => speed::speed(row, rate),
     }
 }

@@ -3,12 +3,12 @@ ghost use mathlib.Core.Path.{_≡_};
 ghost use Prim.Native.Nat.{_+_, _*_, _^_, _<_, _≤_};
 ghost use lib.ListN.{length};
 ghost use Rattle.table.specs.Port.{nibble, putBit, noted, Below, SamplesRow, Samples};
+use refusal::Refusal;
 use rows::axes_in;
 use rows::read_row;
 use rows::write_row;
 use sample::step::SteppedRow;
 use sample::step::step_row;
-use refusal::Refusal;
 
 // Bit k is axis k's.
 pub struct Masks {

@@ -1,9 +1,9 @@
 // A reading of a narrow counter.
 ghost use Rattle.table.specs.Call.{Reads};
 use crate::commit::commit;
+use reckon::Reckoned;
 use rows::Located;
 use rows::locate;
-use reckon::Reckoned;
 
 // The position that a reading gives, stored and answered: LENGTH, AXIS, BROKEN, EMPTY, KIND, VALUE, HALF, RANGE.
 pub fn reading(table: &mut [u64], axis: u64, reading: u64) -> Reckoned
@@ -12,7 +12,7 @@ pub fn reading(table: &mut [u64], axis: u64, reading: u64) -> Reckoned
     match locate(table, axis) {
         Located::Refused(e) => Reckoned::Refused(e),
         Located::At(row) => {
-            let taken = calls::reading::read(row, reading);
+            let taken = counter::read(row, reading);
             let change = taken.row;
             let answer = taken.answer;
             commit(table, axis, change);

@@ -2,9 +2,9 @@
 ghost use Rattle.calls.specs.Calls.{setupRow, eraseRow};
 ghost use Rattle.table.specs.Call.{Makes};
 use crate::commit::commit;
+use calls::answer::Done;
 use rows::Located;
 use rows::locate;
-use calls::answer::Done;
 
 // An axis set up anew: LENGTH, AXIS, VALUE.
 pub fn setup(table: &mut [u64], axis: u64, kind: u64, depth: u64, width: u64, turn: u64) -> Done

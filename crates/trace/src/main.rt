@@ -71,9 +71,9 @@ fn main() {
         os::fail(b"trace: standard input");
         return;
     }
-    let mut text = [0u8; tracing::report::ROOM];
-    let n = turn.trace.report().write(&mut text);
-    if !io::write_all(STDOUT_FILENO, &text[..n]) {
+    let mut lines = [0u8; text::report::ROOM];
+    let n = turn.trace.report().write(&mut lines);
+    if !io::write_all(STDOUT_FILENO, &lines[..n]) {
         os::fail(b"trace: standard output");
     }
 }

@@ -1,4 +1,2 @@
 pub mod TraceLaws
-pub mod DecimalLaws
-pub mod TextLaws
 pub mod OutcomeLaws

@@ -4,9 +4,8 @@ use mathlib.Core.Path.{_≡_}
 use mathlib.Core.List.{List}
 use Rattle.refusal.proofs.OutcomeLaws.{one}
 use Rattle.tracing.specs.Trace.{started, fedWith, reportOf}
-use Rattle.tracing.specs.Text.{Writes}
 use Rattle.tracing.specs.declared.trace.Trace.{Trace}
-use Rattle.tracing.specs.declared.report.Report.{Report}
+use Rattle.text.specs.declared.report.Report.{Report}
 
 -- HEADLINE: a start has one outcome.
 pub start-one : {a b : Trace} → a ≡ started → b ≡ started → a ≡ b
@@ -19,7 +18,3 @@ fed-one x bs p q = one p q
 -- HEADLINE: so has a report.
 pub report-one : (x : Trace) {a b : Report} → a ≡ reportOf x → b ≡ reportOf x → a ≡ b
 report-one x p q = one p q
-
--- HEADLINE: so has writing one, answer and buffer.
-pub write-one : (r : Report) (b : List ℕ) {c d : List ℕ} {m n : ℕ} → Writes r b c m → Writes r b d n → (m ≡ n) × (c ≡ d)
-write-one r b w z = (one (w .number) (z .number), one (w .buffer) (z .buffer))

@@ -13,7 +13,7 @@ use Rattle.calls.specs.declared.answer.View.{View}
 use Rattle.table.specs.Port.{sampledTable}
 use Rattle.table.specs.Call.{ruled, tableAfter, viewedIn}
 use Rattle.tracing.specs.declared.trace.Trace.{Trace}
-use Rattle.tracing.specs.declared.report.Report.{Report}
+use Rattle.text.specs.declared.report.Report.{Report}
 
 -- How many bytes are looked at in all.
 abbrev pub LIMIT : ℕ

@@ -2,12 +2,12 @@
 ghost use mathlib.Core.Path.{_≡_};
 ghost use mathlib.Core.List.{[], _∷_};
 ghost use Rattle.tracing.specs.Trace.{started, fedWith, reportOf};
-use crate::report::Report;
 use axis::kind::Kind;
 use calls::answer::Viewed;
 use table::look::view;
 use table::port::sample;
 use table::setup::setup;
+use text::report::Report;
 
 // How many bytes are looked at in all.
 pub const LIMIT: u64 = 0xffff_ffff;

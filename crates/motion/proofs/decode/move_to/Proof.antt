@@ -1,4 +1,4 @@
-use Rattle.motion.specs.Lines.{line, placeOf, three}
+use Rattle.lines.specs.Lines.{line, placeOf, three}
 use Rattle.motion.specs.Decode.{moveTo}
 use borrow.Author.Needs.{needs}
 use Rattle.motion.proofs.decode.move_to.Statement.{statement}

@@ -1,4 +1,4 @@
-use Rattle.motion.specs.Lines.{line, placeOf, three}
+use Rattle.lines.specs.Lines.{line, placeOf, three}
 use Rattle.motion.specs.Index.{rises}
 use mathlib.Core.Path.{refl}
 use borrow.Author.Needs.{needs}

@@ -1,5 +1,5 @@
 use Rattle.sample.specs.Step.{settle}
-use Rattle.motion.specs.Lines.{three}
+use Rattle.lines.specs.Lines.{three}
 use Rattle.axis.proofs.RowLaws.{agree}
 use mathlib.Core.Path.{refl}
 use borrow.Author.Needs.{needs}

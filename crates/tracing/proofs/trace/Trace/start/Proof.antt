@@ -1,5 +1,4 @@
 use Rattle.tracing.specs.Trace.{started}
-use Rattle.tracing.specs.declared.trace.Trace.{Trace}
 use borrow.Author.Needs.{needs}
 use Rattle.tracing.proofs.trace.Trace.start.Statement.{statement}
 use Rattle.tracing.proofs.trace.Trace.start.Tie as tie

@@ -1,0 +1,61 @@
+// Save and restore.
+ghost use mathlib.Core.Path.{_≡_};
+ghost use lib.ListN.{length};
+ghost use Rattle.axis.specs.Row.{axisOf};
+ghost use Rattle.calls.specs.Calls.{Positioned};
+ghost use Rattle.keeping.specs.Saving.{savedOf, saveRow, savedIn, restoreRow};
+use axis::config::Config;
+use axis::pack::pack;
+use axis::row::Axis;
+use axis::row::Row;
+use axis::unpack::unpack;
+use calls::answer::Changed;
+use record::answer::Read;
+use record::answer::Saved;
+use record::answer::Written;
+use refusal::Refusal;
+use sound::Status;
+use sound::classify;
+
+// What is saved of a row.
+fn kept(r: Row) -> Saved
+    requires { ⌜ Positioned r ⌝ }
+    ensures { λ s. ⌜ s ≡ savedOf (axisOf r) ⌝ }
+{
+    let a = unpack(r);
+    Saved {
+        config: Config {
+            kind: a.kind,
+            depth: a.depth,
+            width: a.width,
+            turn: a.turn,
+        },
+        position: position::at_word(r.w0),
+    }
+}
+
+// Save: the axis's record at the front of a buffer.
+pub fn save(r: Row, buf: &mut [u8]) -> Written
+    ensures { λ w. ⌜ (w ≡ saveRow (length (now (buf .entry))) r) × (now (buf .exit) ≡ savedIn (now (buf .entry)) r) ⌝ }
+{
+    match classify(r) {
+        Status::Broken => Written::Refused(Refusal::Broken),
+        Status::Empty => Written::Refused(Refusal::Empty),
+        Status::Sampled => record::writer::save(buf, kept(r)),
+        Status::Counter => record::writer::save(buf, kept(r)),
+    }
+}
+
+// Restore: the axis that a record says, as setup and then preset would leave it.
+pub fn restore(slice: &[u8]) -> Changed
+    ensures { λ c. ⌜ ((r : Row) → c ≡ restoreRow (now (slice .entry)) r) ⌝ }
+{
+    match record::reader::read(slice) {
+        Read::Refused(e) => Changed::Kept(e),
+        Read::Accepted(saved) => {
+            let config = saved.config;
+            let word = position::word_of(saved.position);
+            Changed::To(pack(Axis::setup_at(config, word)))
+        }
+    }
+}

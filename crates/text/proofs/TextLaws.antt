@@ -1,0 +1,135 @@
+-- The laws of a report's text: document 01, "Trace program".
+use Prim.Native.Nat.{ℕ, suc, _+_, _/_, _%_, _^_, _≤_, _<_}
+use native.Mathlib.Numerals.{add-one}
+use native.Mathlib.Omega.{arith}
+use mathlib.Core.Path.{_≡_, refl, sym, ap, subst, _∙_}
+use mathlib.Core.Bool.{true, false}
+use mathlib.Core.List.{List, [], _∷_, _++_}
+use lib.Dec.{T}
+use lib.IntN.{ℤ, pos, negsuc, natAbs, _-ℤ_}
+use lib.Signed.{ltZ}
+use lib.ListN.{length, take, getD, set, length-append}
+use lib.Seq.{sets, take-suc, length-take-le}
+use borrow.Author.Tests.{ltb-true}
+use mir.Syntax.{w64}
+use mir.Val.{SFits}
+use Rattle.integers.specs.Integer.{plus, minus}
+use Rattle.integers.proofs.Balance.{abs-is, bal-sub, ltZ-true}
+use Rattle.integers.proofs.Machine.{i64-fits, fits-size, no-neg, no-pos, abs-nonneg}
+use Rattle.tagged.proofs.StoreLaws.{sets-then}
+use Rattle.text.specs.Text.{FEED, MINUS, ZERO, SAMPLES, POSITION, DOUBLES, decimal, numeral, lineOf, textOf, Puts}
+use Rattle.text.specs.declared.report.Report.{Report}
+use Rattle.text.proofs.DecimalLaws.{decimal-some, decimal-one, decimal-more, decimal-length}
+
+-- The first bytes of a run from a place on, and one more.
+pub sets-next : (b : List ℕ) (at : ℕ) (bytes : List ℕ) (i : ℕ) → i < length bytes →
+    set (sets b at (take i bytes)) (at + i) (getD bytes i 0) ≡ sets b at (take (i + 1) bytes)
+sets-next b at bytes i h =
+    rw (add-one, take-suc bytes i 0 h) (sets-then b at (at + i) (take i bytes) (getD bytes i 0 ∷ []) (ap (λ (k : ℕ). at + k) (length-take-le i bytes (omega arith))))
+
+-- Bytes, and bytes behind them, are bytes in a row.
+pub puts-then : {xs ys b m d : List ℕ} {at j r : ℕ} → Puts xs b at m j → Puts ys m j d r → Puts (xs ++ ys) b at d r
+puts-then {xs} {ys} {b} {m} {d} {at} {j} {r} p q = record {
+  buffer = q .buffer ∙ ap (λ (l : List ℕ). sets l j ys) (p .buffer) ∙ sets-then b at j xs ys (sym (p .behind));
+  behind = simp length-append (omega (arith, p .behind, q .behind));
+}
+
+-- ---- a number's digits
+
+-- A number below ten is put as one byte.
+pub puts-one : {b d : List ℕ} {at r : ℕ} (n x : ℕ) → n < 10 → x ≡ ZERO + n → Puts (x ∷ []) b at d r → Puts (decimal n) b at d r
+puts-one n x h e p = rw (decimal-one n h, ← e) p
+
+-- Any other, as the digits of its tenth part and one byte more.
+pub puts-more : {b m d : List ℕ} {at j r : ℕ} (n x : ℕ) → 10 ≤ n → x ≡ ZERO + n % 10 →
+    Puts (decimal (n / 10)) b at m j → Puts (x ∷ []) m j d r → Puts (decimal n) b at d r
+puts-more n x h e p q = rw (decimal-more n h, ← e) (puts-then p q)
+
+-- Where a number has room, its tenth part has, with a byte to spare.
+pub tenth-fits : (n at room : ℕ) → 10 ≤ n → at + length (decimal n) ≤ room → at + length (decimal (n / 10)) < room
+tenth-fits n at room h l = let e = ap length (decimal-more n h) ∙ length-append (decimal (n / 10)) ((ZERO + n % 10) ∷ []) in omega arith
+
+-- A place with room for a number has room for a byte.
+pub digit-fits : (n at room : ℕ) → at + length (decimal n) ≤ room → at < room
+digit-fits n at room l = omega (arith, decimal-some n)
+
+-- ---- a line
+
+-- The bytes of a line: its label, its number and one more.
+pub line-length : (label ds : List ℕ) → length (lineOf label ds) ≡ length label + length ds + 1
+unfolding lineOf
+line-length label ds = simp length-append (omega arith)
+
+-- A label, digits and a line feed are a line.
+pub puts-line : {label ds b m l d : List ℕ} {at i j r : ℕ} → Puts label b at m i → Puts ds m i l j → Puts (FEED ∷ []) l j d r → Puts (lineOf label ds) b at d r
+unfolding lineOf
+puts-line p q f = puts-then p (puts-then q f)
+
+-- ---- a position
+
+pub numeral-below : (z : ℤ) → ltZ z (pos 0) ≡ true → numeral z ≡ MINUS ∷ decimal (natAbs z)
+unfolding numeral
+numeral-below (pos n) e = absurd (omega (arith, ltb-true n 0 e))
+numeral-below (negsuc n) e = refl
+
+pub numeral-above : (z : ℤ) → ltZ z (pos 0) ≡ false → numeral z ≡ decimal (natAbs z)
+unfolding numeral
+numeral-above (pos n) e = refl
+numeral-above (negsuc n) e = absurd (subst T e tt)
+
+-- A position below zero stands behind a -.
+pub position-below : (z : ℤ) → ltZ z (pos 0) ≡ true → lineOf POSITION (numeral z) ≡ lineOf (POSITION ++ (MINUS ∷ [])) (decimal (natAbs z))
+unfolding lineOf
+position-below z e = rw (numeral-below z e)
+
+-- Any other does not.
+pub position-above : (z : ℤ) → ltZ z (pos 0) ≡ false → lineOf POSITION (numeral z) ≡ lineOf POSITION (decimal (natAbs z))
+position-above z e = ap (lineOf POSITION) (numeral-above z e)
+
+-- A number z below zero: -1 - z is one short of its size, and the machine holds both.
+module _ (z : ℤ) (f : SFits w64 z) (h : ltZ z (pos 0) ≡ true) where
+  abbrev pub short : ℤ
+  short = negsuc 0 -ℤ z
+
+  below : plus z < minus z
+  below = omega (arith, ltZ-true z (pos 0) h)
+
+  pub short-above : minus short ≤ plus short
+  short-above = omega (arith, below, bal-sub (negsuc 0) z)
+
+  short-is : plus short + 1 ≡ minus z
+  short-is = omega (arith, no-neg short short-above, no-pos z (omega (arith, below)), bal-sub (negsuc 0) z)
+
+  pub short-fits : SFits w64 short
+  short-fits = fits-size short (omega (arith, short-is, no-neg short short-above, i64-fits f))
+
+  pub size-is : natAbs short + 1 ≡ natAbs z
+  size-is = omega (arith, short-is, abs-nonneg short short-above, abs-is z, no-pos z (omega (arith, below)))
+
+  pub size-fits : natAbs short + 1 < 2 ^ 64
+  size-fits = omega (arith, short-is, abs-nonneg short short-above, i64-fits f)
+
+-- ---- the room of a report
+
+-- A line whose number is below 10 ^ k, k above 0.
+line-room : (label : List ℕ) (k n : ℕ) → n < 10 ^ suc k → length (lineOf label (decimal n)) ≤ length label + suc k + 1
+line-room label k n h = omega (arith, line-length label (decimal n), decimal-length k n h)
+
+pub samples-room : (n : ℕ) → n < 2 ^ 64 → length (lineOf SAMPLES (decimal n)) ≤ 29
+samples-room n h = line-room SAMPLES 19 n (omega arith)
+
+pub doubles-room : (n : ℕ) → n < 2 ^ 16 → length (lineOf DOUBLES (decimal n)) ≤ 14
+doubles-room n h = line-room DOUBLES 4 n (omega arith)
+
+pub position-room : (z : ℤ) → SFits w64 z → length (lineOf POSITION (numeral z)) ≤ 30
+unfolding numeral
+position-room (pos n) f = let h = i64-fits f in omega (arith, line-room POSITION 18 n (omega arith))
+position-room (negsuc n) f =
+    let h = i64-fits f in omega (arith, line-length POSITION (MINUS ∷ decimal (suc n)), decimal-length 18 (suc n) (omega arith))
+
+-- The three lines in a row are the report's text.
+pub puts-text : (r : Report) {b m l d : List ℕ} {i j n : ℕ} →
+    Puts (lineOf SAMPLES (decimal (r .samples))) b 0 m i → Puts (lineOf POSITION (numeral (r .position))) m i l j → Puts (lineOf DOUBLES (decimal (r .doubles))) l j d n →
+    Puts (textOf r) b 0 d n
+unfolding textOf
+puts-text r p q f = puts-then p (puts-then q f)
