@@ -25,8 +25,8 @@ report-requires c κs = search needs
 write-requires : tie.Need-write-requires
 write-requires c κs = search needs
 
-array-share-prefix-text : tie.Need-array-share-prefix-text
-array-share-prefix-text c = search needs
+array-share-prefix-lines : tie.Need-array-share-prefix-lines
+array-share-prefix-lines c = search needs
 
 slice-aggregate-write-all : tie.Need-slice-aggregate-write-all
 slice-aggregate-write-all c = sym (length-take-le _ _ (c .before .write .ensures .fits))
@@ -57,7 +57,7 @@ main-spec =
     returns
     report-requires
     write-requires
-    array-share-prefix-text
+    array-share-prefix-lines
     slice-aggregate-write-all
     write-all-requires
     slice-aggregate-fail-2
