@@ -1,19 +1,17 @@
--- Each public call's claim admits one outcome, and an answer's numbers tell it: document 01, "Programs that would slip past a lazy claim".
+-- Each public call's claim admits one outcome: document 01, "Programs that would slip past a lazy claim".
 use Prim.Native.Nat.{ℕ}
-use mathlib.Core.Path.{_≡_, sym, ap}
+use mathlib.Core.Path.{_≡_}
 use mathlib.Core.List.{List}
 use Rattle.refusal.proofs.OutcomeLaws.{one}
-use Rattle.refusal.proofs.RefusalLaws.{told-apart, above-zero}
 use Rattle.reckon.specs.declared.Reckoned.{Reckoned}
 use Rattle.record.specs.declared.answer.Written.{Written}
 use Rattle.axis.specs.declared.row.Row.{Row}
 use Rattle.calls.specs.declared.answer.Changed.{Changed}
 use Rattle.calls.specs.declared.answer.Done.{Done}
 use Rattle.calls.specs.declared.answer.Viewed.{Viewed}
-use Rattle.table.specs.Port.{Samples, sampledNumber, sampledFound, sampledMasks}
+use Rattle.table.specs.Port.{Samples}
 use Rattle.table.specs.Call.{Makes, viewedIn, Reads, speedIn, Saves}
 use Rattle.table.specs.declared.port.Sampled.{Sampled}
-use Rattle.table.specs.declared.port.Sampled.the-variants.{Seen, Refused}
 
 -- HEADLINE: a port sample has one outcome.
 pub sample-one : (t : List ℕ) (port : ℕ) {u v : List ℕ} {a b : Sampled} → Samples t port u a → Samples t port v b → (a ≡ b) × (u ≡ v)
@@ -38,10 +36,3 @@ view-one t k p q = one p q
 -- HEADLINE: so has speed by period.
 pub speed-one : (rate : ℕ) (t : List ℕ) (k : ℕ) {a b : Reckoned} → a ≡ speedIn rate t k → b ≡ speedIn rate t k → a ≡ b
 speed-one rate t k p q = one p q
-
--- HEADLINE: the number, the number found and the masks tell what a port sample answers.
-pub sampled-told : (a b : Sampled) → sampledNumber a ≡ sampledNumber b → sampledFound a ≡ sampledFound b → sampledMasks a ≡ sampledMasks b → a ≡ b
-sampled-told (Seen m) (Seen o) n f e = ap Seen e
-sampled-told (Seen m) (Refused d) n f e = absurd (above-zero d (sym n))
-sampled-told (Refused d) (Seen o) n f e = absurd (above-zero d n)
-sampled-told (Refused d) (Refused g) n f e = ap Refused (told-apart d g n f)
