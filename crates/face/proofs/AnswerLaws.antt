@@ -30,13 +30,13 @@ use Rattle.calls.specs.declared.answer.Viewed.{Viewed}
 use Rattle.calls.proofs.AnswerLaws.{done-told, view-told}
 use Rattle.rows.specs.Located.{located, onFound}
 use Rattle.table.specs.Call.{saveIn}
-use Rattle.table.specs.declared.port.Sampled.{Sampled}
+use Rattle.port.specs.declared.Sampled.{Sampled}
 use Rattle.rows.specs.declared.Located.{Located}
 use Rattle.rows.specs.declared.Located.the-variants.{At, Refused}
-use Rattle.table.proofs.AnswerLaws.{sample-told}
+use Rattle.port.proofs.AnswerLaws.{sample-told}
 use Rattle.host.specs.declared.answer.Answer.{Answer}
 use Rattle.face.specs.Answer.{answerDone, answerWritten, answerSampled, answerView}
-use Rattle.face.specs.declared.port.SampledAnswer.{SampledAnswer}
+use Rattle.face.specs.declared.sampling.SampledAnswer.{SampledAnswer}
 use Rattle.face.specs.declared.look.ViewAnswer.{ViewAnswer}
 
 -- ---- a record's size

@@ -10,7 +10,7 @@ use Rattle.host.specs.Answer.{answerTo}
 use Rattle.host.specs.declared.answer.Answer.{Answer}
 use Rattle.face.specs.Answer.{answerView}
 use Rattle.face.specs.Call.{Leaves, SamplesToC, MakesToC, ReadsToC, SavesToC}
-use Rattle.face.specs.declared.port.SampledAnswer.{SampledAnswer}
+use Rattle.face.specs.declared.sampling.SampledAnswer.{SampledAnswer}
 use Rattle.face.specs.declared.look.ViewAnswer.{ViewAnswer}
 
 -- An answer in C's form, of a call that answered and left what is said.

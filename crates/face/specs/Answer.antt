@@ -8,10 +8,10 @@ use Rattle.record.specs.declared.answer.Written.{Written}
 use Rattle.calls.specs.Answer.{doneNumber, doneFound, viewNumber, viewFound, viewValue}
 use Rattle.calls.specs.declared.answer.Done.{Done}
 use Rattle.calls.specs.declared.answer.Viewed.{Viewed}
-use Rattle.table.specs.Port.{sampledNumber, sampledFound, sampledMasks}
-use Rattle.table.specs.declared.port.Sampled.{Sampled}
+use Rattle.port.specs.Port.{sampledNumber, sampledFound, sampledMasks}
+use Rattle.port.specs.declared.Sampled.{Sampled}
 use Rattle.host.specs.declared.answer.Answer.{Answer}
-use Rattle.face.specs.declared.port.SampledAnswer.{SampledAnswer}
+use Rattle.face.specs.declared.sampling.SampledAnswer.{SampledAnswer}
 use Rattle.face.specs.declared.look.ViewAnswer.{ViewAnswer}
 
 -- The paper's number and found number of a refusal, which has no value.

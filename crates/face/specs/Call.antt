@@ -9,12 +9,12 @@ use Rattle.keeping.specs.Saving.{savedIn}
 use Rattle.counter.specs.Reading.{readRow}
 use Rattle.calls.specs.declared.answer.Changed.{Changed}
 use Rattle.rows.specs.Located.{located, onFound}
-use Rattle.table.specs.Port.{sampledTable, sampledAnswer}
+use Rattle.port.specs.Port.{sampledTable, sampledAnswer}
 use Rattle.table.specs.Call.{ruled, tableAfter, readIn, saveIn}
 use Rattle.host.specs.Answer.{answerTo}
 use Rattle.host.specs.declared.answer.Answer.{Answer}
 use Rattle.face.specs.Answer.{answerDone, answerWritten, answerSampled}
-use Rattle.face.specs.declared.port.SampledAnswer.{SampledAnswer}
+use Rattle.face.specs.declared.sampling.SampledAnswer.{SampledAnswer}
 
 -- What a call that may write a slice promises: it answers `said`, and the slice holds `left` afterwards.
 pub record Leaves {A : Type 0} (said : A) (left : List ℕ) (u : List ℕ) (a : A) : Type 0 where

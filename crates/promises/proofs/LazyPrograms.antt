@@ -15,9 +15,9 @@ use Rattle.lines.specs.Lines.{rawOf}
 use Rattle.sample.proofs.RowLaws.{axis-after}
 use Rattle.sample.proofs.StepLaws.{priming}
 use Rattle.rows.specs.Table.{axesIn, rowAt}
-use Rattle.table.specs.Port.{nibble, sampledTable, sampledAnswer}
-use Rattle.table.specs.declared.port.Sampled.the-variants.{Refused}
-use Rattle.table.proofs.PortLaws.{sample-row, sample-refused}
+use Rattle.port.specs.Port.{nibble, sampledTable, sampledAnswer}
+use Rattle.port.specs.declared.Sampled.the-variants.{Refused}
+use Rattle.port.proofs.PortLaws.{sample-row, sample-refused}
 use Rattle.promises.specs.Runs.{Call, port, tableNext, tableRun}
 
 -- Refusing everything: a table of a legal length is sampled, never refused.

@@ -19,14 +19,14 @@ use Rattle.calls.specs.declared.answer.Changed.the-variants.{To, Kept}
 use Rattle.history.specs.Event.{Op, Event, setup, erase, preset, arm, acknowledge, view, reading, speed, save, restore, asked, rowAfter, rowNext}
 use Rattle.history.specs.Phase.{marksOf}
 use Rattle.rows.specs.Table.{axesIn, rowAt}
-use Rattle.table.specs.Port.{nibble, sampledAnswer}
+use Rattle.port.specs.Port.{nibble, sampledAnswer}
 use Rattle.table.specs.Call.{ruled, tableAfter}
 use Rattle.rows.proofs.TableLaws.{axes-fit, row-same}
 use Rattle.rows.proofs.LocatedLaws.{found-at}
-use Rattle.table.proofs.PortLaws.{sample-length, sample-row, sample-bits, sample-refused}
+use Rattle.port.proofs.PortLaws.{sample-length, sample-row, sample-bits, sample-refused}
 use Rattle.table.proofs.CallLaws.{makes-spares}
-use Rattle.table.specs.declared.port.Sampled.{Sampled}
-use Rattle.table.specs.declared.port.Sampled.the-variants.{Seen, Refused as Unsampled}
+use Rattle.port.specs.declared.Sampled.{Sampled}
+use Rattle.port.specs.declared.Sampled.the-variants.{Seen, Refused as Unsampled}
 use Rattle.promises.specs.Runs.{Call, port, names, tableBy, tableNext, tableRun, Told, marks, wrote, bitsOf, answerIn, heardOf, heard, rowsOf, rows, seen, eventOf, events, rowRun, answerOf, toldOf, tolds, rowsFrom}
 use Rattle.promises.proofs.SaveBytes.{save-alike}
 

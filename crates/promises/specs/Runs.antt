@@ -20,11 +20,11 @@ use Rattle.calls.specs.declared.answer.Viewed.{Viewed}
 use Rattle.history.specs.Event.{Op, Event, setup, erase, preset, arm, acknowledge, view, reading, speed, save, restore, bits, asked, rowNext}
 use Rattle.history.specs.Phase.{Marks, marksOf}
 use Rattle.rows.specs.Table.{rowAt}
-use Rattle.table.specs.Port.{nibble, sampledTable, sampledAnswer}
+use Rattle.port.specs.Port.{nibble, sampledTable, sampledAnswer}
 use Rattle.rows.specs.Located.{located, onFound}
 use Rattle.table.specs.Call.{ruled, tableAfter, viewedIn, readIn, speedIn, saveIn}
-use Rattle.table.specs.declared.port.Sampled.{Sampled}
-use Rattle.table.specs.declared.port.Sampled.the-variants.{Seen, Refused as Unsampled}
+use Rattle.port.specs.declared.Sampled.{Sampled}
+use Rattle.port.specs.declared.Sampled.the-variants.{Seen, Refused as Unsampled}
 
 -- A call on a table: a port sample, or a call that names an axis.
 pub data Call : Type 0 where

@@ -2,12 +2,12 @@
 mod say; // say.rt: answers as text
 
 use axis::kind::Kind;
+use port::sample;
 use reckon::speed::by_count;
 use reckon::widening::widen;
 use table::change::preset;
 use table::look::speed;
 use table::look::view;
-use table::port::sample;
 use table::reading::reading;
 use table::saving::save;
 use table::setup::setup;

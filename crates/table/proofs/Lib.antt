@@ -1,6 +1,3 @@
-pub mod MaskLaws
-pub mod PortLaws
-pub mod AnswerLaws
 pub mod CallLaws
 pub mod WordLaws
 pub mod SaveLaws

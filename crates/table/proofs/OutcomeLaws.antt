@@ -9,13 +9,7 @@ use Rattle.axis.specs.declared.row.Row.{Row}
 use Rattle.calls.specs.declared.answer.Changed.{Changed}
 use Rattle.calls.specs.declared.answer.Done.{Done}
 use Rattle.calls.specs.declared.answer.Viewed.{Viewed}
-use Rattle.table.specs.Port.{Samples}
 use Rattle.table.specs.Call.{Makes, viewedIn, Reads, speedIn, Saves}
-use Rattle.table.specs.declared.port.Sampled.{Sampled}
-
--- HEADLINE: a port sample has one outcome.
-pub sample-one : (t : List ℕ) (port : ℕ) {u v : List ℕ} {a b : Sampled} → Samples t port u a → Samples t port v b → (a ≡ b) × (u ≡ v)
-sample-one t port w z = (one (w .answer) (z .answer), one (w .table) (z .table))
 
 -- HEADLINE: setup, erase, preset, arm, acknowledge and restore, each by its rule, have one outcome.
 pub makes-one : (rule : Row → Changed) (t : List ℕ) (k : ℕ) {u v : List ℕ} {a b : Done} → Makes rule t k u a → Makes rule t k v b → (a ≡ b) × (u ≡ v)

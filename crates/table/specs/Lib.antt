@@ -1,3 +1,2 @@
-pub mod Port
 pub mod Call
 pub mod Order

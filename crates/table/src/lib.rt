@@ -1,5 +1,4 @@
-// A lent table of axes, four words each: a port sample, and every call that names one axis.
-pub mod port; // port.rt: a port sample
+// A lent table of axes, four words each: every call that names one axis.
 mod commit; // commit.rt: what a call makes of the named row, written back or not
 pub mod setup; // setup.rt: setup and erase
 pub mod change; // change.rt: preset, arm and acknowledge

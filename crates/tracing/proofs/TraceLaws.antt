@@ -24,11 +24,11 @@ use Rattle.calls.specs.Calls.{configOf, setupRow, viewRow}
 use Rattle.calls.specs.declared.answer.Viewed.the-variants.{Shows}
 use Rattle.rows.specs.Table.{axesIn, rowAt, setRow}
 use Rattle.rows.specs.Located.{located}
-use Rattle.table.specs.Port.{nibble, sampledTo, sampledTable}
+use Rattle.port.specs.Port.{nibble, sampledTo, sampledTable}
 use Rattle.table.specs.Call.{tableAfter, viewedIn}
 use Rattle.rows.proofs.TableLaws.{row-same}
 use Rattle.rows.proofs.LocatedLaws.{found-at}
-use Rattle.table.proofs.PortLaws.{length-sampledTo}
+use Rattle.port.proofs.PortLaws.{length-sampledTo}
 use Rattle.tracing.specs.Trace.{LIMIT, started, tracedBy, lookedAt, fedWith, reportOf, lowFour, steppedBy, inputRow, inputReport}
 use Rattle.tracing.specs.declared.trace.Trace.{Trace}
 

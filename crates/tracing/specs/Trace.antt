@@ -10,7 +10,7 @@ use Rattle.sample.specs.Step.{stepRow}
 use Rattle.calls.specs.Answer.{viewValue}
 use Rattle.calls.specs.Calls.{configOf, setupRow}
 use Rattle.calls.specs.declared.answer.View.{View}
-use Rattle.table.specs.Port.{sampledTable}
+use Rattle.port.specs.Port.{sampledTable}
 use Rattle.table.specs.Call.{ruled, tableAfter, viewedIn}
 use Rattle.tracing.specs.declared.trace.Trace.{Trace}
 use Rattle.text.specs.declared.report.Report.{Report}

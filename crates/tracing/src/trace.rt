@@ -4,8 +4,8 @@ ghost use mathlib.Core.List.{[], _∷_};
 ghost use Rattle.tracing.specs.Trace.{started, fedWith, reportOf};
 use axis::kind::Kind;
 use calls::answer::Viewed;
+use port::sample;
 use table::look::view;
-use table::port::sample;
 use table::setup::setup;
 use text::report::Report;
 

@@ -4,12 +4,12 @@ use mathlib.Core.Path.{_≡_, refl, sym, ap, _∙_}
 use mathlib.Core.List.{List}
 use lib.ListN.{length}
 use borrow.Author.Needs.{needs}
-use Rattle.table.specs.Port.{nibble, sampledTo, maskOf, masksTo}
-use Rattle.table.specs.declared.port.Masks.{Masks}
+use Rattle.port.specs.Port.{nibble, sampledTo, maskOf, masksTo}
+use Rattle.port.specs.declared.Masks.{Masks}
 use Rattle.rows.proofs.TableLaws.{axes-fit, axes-most}
-use Rattle.table.proofs.PortLaws.{length-sampledTo, masks-below, masks-next, table-next, sample-none, sample-all}
-use Rattle.table.proofs.port.sample.Statement.{statement}
-use Rattle.table.proofs.port.sample.Tie as tie
+use Rattle.port.proofs.PortLaws.{length-sampledTo, masks-below, masks-next, table-next, sample-none, sample-all}
+use Rattle.port.proofs.sample.Statement.{statement}
+use Rattle.port.proofs.sample.Tie as tie
 
 -- What holds with k rows done.
 record Reached (t₀ : List ℕ) (port n : ℕ) (t : List ℕ) (m : Masks) (k : ℕ) : Type 0 where

@@ -1,8 +1,8 @@
-use Rattle.table.specs.Port.{putBit}
-use Rattle.table.proofs.MaskLaws.{bit-put}
+use Rattle.port.specs.Port.{putBit}
+use Rattle.port.proofs.MaskLaws.{bit-put}
 use borrow.Author.Needs.{needs}
-use Rattle.table.proofs.port.put_bit.Statement.{statement}
-use Rattle.table.proofs.port.put_bit.Tie as tie
+use Rattle.port.proofs.put_bit.Statement.{statement}
+use Rattle.port.proofs.put_bit.Tie as tie
 
 cast-result : tie.Need-cast-result
 cast-result c = search needs

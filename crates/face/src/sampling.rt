@@ -2,7 +2,7 @@
 ghost use mathlib.Core.Path.{_≡_};
 ghost use Rattle.face.specs.Answer.{answerSampled};
 ghost use Rattle.face.specs.Call.{SamplesToC};
-use table::port::Sampled;
+use port::Sampled;
 
 // A port sample's answer: the refusal's number, the layout number found (0), and three masks in which bit k is axis k's.
 #[repr(C)]
@@ -41,5 +41,5 @@ fn of_sampled(s: Sampled) -> SampledAnswer
 pub extern "C" fn ubrenchip_sample(table: &mut [u64], port: u64) -> SampledAnswer
     ensures { λ r. ⌜ SamplesToC (now (table .entry)) port (now (table .exit)) r ⌝ }
 {
-    of_sampled(table::port::sample(table, port))
+    of_sampled(port::sample(table, port))
 }

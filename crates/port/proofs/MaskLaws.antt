@@ -9,7 +9,7 @@ use lib.Bits.{bitOr, or-shifted-r}
 use lib.Dec.{eqb, lit<}
 use lib.Pow.{pow-pos, pow-add, pow-mono, high, shl-exact}
 use Rattle.fields.specs.Field.{flagOf}
-use Rattle.table.specs.Port.{putBit, maskOf}
+use Rattle.port.specs.Port.{putBit, maskOf}
 
 -- A shift and an or put a bit above what a mask holds.
 pub bit-put : (k m : ℕ) → k < 16 → m < 2 ^ k → bitOr m (1 * 2 ^ k % 2 ^ 16) ≡ m + 2 ^ k

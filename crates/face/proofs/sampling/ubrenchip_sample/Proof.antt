@@ -1,8 +1,8 @@
 use Rattle.face.specs.Answer.{answerSampled}
 use Rattle.face.proofs.CallLaws.{shows}
 use borrow.Author.Needs.{needs}
-use Rattle.face.proofs.port.ubrenchip_sample.Statement.{statement}
-use Rattle.face.proofs.port.ubrenchip_sample.Tie as tie
+use Rattle.face.proofs.sampling.ubrenchip_sample.Statement.{statement}
+use Rattle.face.proofs.sampling.ubrenchip_sample.Tie as tie
 
 sample-requires : tie.Need-sample-requires
 sample-requires c κs = search needs

@@ -1,7 +1,7 @@
-use Rattle.table.specs.Port.{noted}
+use Rattle.port.specs.Port.{noted}
 use borrow.Author.Needs.{needs}
-use Rattle.table.proofs.port.note.Statement.{statement}
-use Rattle.table.proofs.port.note.Tie as tie
+use Rattle.port.proofs.note.Statement.{statement}
+use Rattle.port.proofs.note.Tie as tie
 
 put-bit-requires : tie.Need-put-bit-requires
 put-bit-requires c κs = search needs

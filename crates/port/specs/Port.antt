@@ -11,9 +11,9 @@ use Rattle.fields.specs.Field.{fieldOf, flagOf}
 use Rattle.sample.specs.Step.{stepRow}
 use Rattle.sample.specs.declared.step.SteppedRow.{SteppedRow}
 use Rattle.rows.specs.Table.{axesIn, rowAt, setRow}
-use Rattle.table.specs.declared.port.Masks.{Masks}
-use Rattle.table.specs.declared.port.Sampled.{Sampled}
-use Rattle.table.specs.declared.port.Sampled.the-variants.{Seen, Refused}
+use Rattle.port.specs.declared.Masks.{Masks}
+use Rattle.port.specs.declared.Sampled.{Sampled}
+use Rattle.port.specs.declared.Sampled.the-variants.{Seen, Refused}
 
 -- The four bits of a port word that axis k owns.
 unfoldable pub nibble : ℕ → ℕ → ℕ

@@ -22,11 +22,11 @@ use Rattle.sample.specs.Step.{kept, stepRow}
 use Rattle.sample.specs.declared.step.SteppedRow.{SteppedRow}
 use Rattle.sample.proofs.RowLaws.{row-steps, empty-stays, counter-stays, broken-stays, words-after, fourth-unread}
 use Rattle.rows.specs.Table.{axesIn, rowAt, setRow, AllWords}
-use Rattle.table.specs.Port.{nibble, stepAt, sampledTo, maskOf, masksTo, noted, Below, sampledTable, sampledAnswer, Samples, Bits, Stays}
-use Rattle.table.specs.declared.port.Masks.{Masks}
-use Rattle.table.specs.declared.port.Sampled.the-variants.{Seen, Refused}
+use Rattle.port.specs.Port.{nibble, stepAt, sampledTo, maskOf, masksTo, noted, Below, sampledTable, sampledAnswer, Samples, Bits, Stays}
+use Rattle.port.specs.declared.Masks.{Masks}
+use Rattle.port.specs.declared.Sampled.the-variants.{Seen, Refused}
 use Rattle.rows.proofs.TableLaws.{axes-fit, length-setRow, row-same, row-other, row-words, set-words}
-use Rattle.table.proofs.MaskLaws.{mask-below, mask-same, mask-bit, mask-above}
+use Rattle.port.proofs.MaskLaws.{mask-below, mask-same, mask-bit, mask-above}
 
 -- ---- one row after another
 

@@ -1,9 +1,9 @@
 -- The laws of a port sample's answer: its numbers and masks tell it apart.
 use mathlib.Core.Path.{_≡_, sym, ap}
 use Rattle.refusal.proofs.RefusalLaws.{told-apart, above-zero}
-use Rattle.table.specs.declared.port.Sampled.{Sampled}
-use Rattle.table.specs.declared.port.Sampled.the-variants.{Seen, Refused}
-use Rattle.table.specs.Port.{sampledNumber, sampledFound, sampledMasks}
+use Rattle.port.specs.declared.Sampled.{Sampled}
+use Rattle.port.specs.declared.Sampled.the-variants.{Seen, Refused}
+use Rattle.port.specs.Port.{sampledNumber, sampledFound, sampledMasks}
 
 -- HEADLINE: the number, the number found and the masks determine what a port sample answers.
 pub sample-told : (a b : Sampled) → sampledNumber a ≡ sampledNumber b → sampledFound a ≡ sampledFound b → sampledMasks a ≡ sampledMasks b → a ≡ b

@@ -1,7 +1,7 @@
 use Rattle.face.specs.Answer.{answerSampled}
 use borrow.Author.Needs.{needs}
-use Rattle.face.proofs.port.of_sampled.Statement.{statement}
-use Rattle.face.proofs.port.of_sampled.Tie as tie
+use Rattle.face.proofs.sampling.of_sampled.Statement.{statement}
+use Rattle.face.proofs.sampling.of_sampled.Tie as tie
 
 enum-known-s : tie.Need-enum-known-s
 enum-known-s c = search needs

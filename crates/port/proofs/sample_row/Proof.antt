@@ -1,6 +1,6 @@
 use borrow.Author.Needs.{needs}
-use Rattle.table.proofs.port.sample_row.Statement.{statement}
-use Rattle.table.proofs.port.sample_row.Tie as tie
+use Rattle.port.proofs.sample_row.Statement.{statement}
+use Rattle.port.proofs.sample_row.Tie as tie
 
 read-row-requires : tie.Need-read-row-requires
 read-row-requires c κs = search needs

@@ -2,7 +2,7 @@
 ghost use mathlib.Core.Path.{_≡_};
 ghost use Prim.Native.Nat.{_+_, _*_, _^_, _<_, _≤_};
 ghost use lib.ListN.{length};
-ghost use Rattle.table.specs.Port.{nibble, putBit, noted, Below, SamplesRow, Samples};
+ghost use Rattle.port.specs.Port.{nibble, putBit, noted, Below, SamplesRow, Samples};
 use refusal::Refusal;
 use rows::axes_in;
 use rows::read_row;

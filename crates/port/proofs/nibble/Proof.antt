@@ -1,8 +1,8 @@
 use lib.Bits.{and-mask}
-use Rattle.table.specs.Port.{nibble}
+use Rattle.port.specs.Port.{nibble}
 use borrow.Author.Needs.{needs}
-use Rattle.table.proofs.port.nibble.Statement.{statement}
-use Rattle.table.proofs.port.nibble.Tie as tie
+use Rattle.port.proofs.nibble.Statement.{statement}
+use Rattle.port.proofs.nibble.Tie as tie
 
 mul-result : tie.Need-mul-result
 mul-result c = search needs

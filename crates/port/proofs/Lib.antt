@@ -1,0 +1,4 @@
+pub mod AnswerLaws
+pub mod MaskLaws
+pub mod PortLaws
+pub mod OutcomeLaws
