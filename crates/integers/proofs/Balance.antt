@@ -1,15 +1,15 @@
 -- Linear arithmetic on ℤ by `omega`: z is plus z - minus z, one of which is 0. Each operation has one balance, an equation of natural numbers
 -- that `omega` reads; an equation or an order of ℤ is one of natural numbers.
 use mathlib.Core.Path.{_≡_, refl, sym, ap, _∙_, subst}
-use mathlib.Core.Bool.{Bool, true, false, cond}
-use Prim.Native.Nat.{ℕ, zero, suc, _+_, _*_, _-_, _/_, _%_, _^_, _≤_, _<_}
+use mathlib.Core.Bool.{Bool, true, false}
+use Prim.Native.Nat.{ℕ, zero, suc, _+_, _*_, _-_, _/_, _%_, _≤_, _<_}
 use native.Mathlib.Nat.{mul-le-mul-right, mod-lt, mod-eq-of-lt, add-mul-mod-self-right, div-add-mod'}
 use native.Mathlib.Omega.{arith}
 use mathlib.Core.Logic.{_⊎_, inl, inr, ⊎-elim}
-use lib.Dec.{T, ltb, leb, leb→le, le→leb, ltb→lt, lt→ltb}
-use borrow.Author.Tests.{ltb-true, ltb-false, leb-true, leb-false}
+use lib.Dec.{T, ltb, leb→le}
+use borrow.Author.Tests.{ltb-true, ltb-false, leb-false}
 use lib.IntN.{ℤ, pos, negsuc, negℤ, natAbs, subℕ, _+ℤ_, _-ℤ_, _*ℤ_}
-use lib.Signed.{mag, leZ, ltZ}
+use lib.Signed.{leZ, ltZ}
 use Rattle.integers.specs.Integer.{plus, minus, modZ, floorZ}
 
 -- A test, with what it says.

@@ -1,15 +1,15 @@
 -- The laws of positions and their words.
-use mathlib.Core.Path.{_≡_, refl, sym, ap, _∙_, subst}
-use mathlib.Core.Bool.{Bool, true, false}
+use mathlib.Core.Path.{_≡_, refl, sym, _∙_, subst}
+use mathlib.Core.Bool.{true, false}
 use mathlib.Core.Logic.{⊎-elim}
-use Prim.Native.Nat.{ℕ, zero, suc, _+_, _-_, _^_, _≤_, _<_}
+use Prim.Native.Nat.{ℕ, suc, _+_, _-_, _^_, _≤_, _<_}
 use native.Mathlib.Omega.{arith}
-use borrow.Author.Tests.{lt-ltb, le-ltb, ltb-true, ltb-false, leb-true, leb-false}
-use lib.Dec.{T, ltb}
-use lib.IntN.{ℤ, pos, negsuc, natAbs, _+ℤ_, _-ℤ_}
+use borrow.Author.Tests.{lt-ltb, le-ltb, ltb-true, leb-true, leb-false}
+use lib.Dec.{T}
+use lib.IntN.{ℤ, pos, negsuc, natAbs}
 use lib.Signed.{leZ, ltZ}
 use Rattle.integers.specs.Integer.{plus, minus}
-use Rattle.integers.proofs.Balance.{abs-is, eqZ, bal-add, bal-sub, sign}
+use Rattle.integers.proofs.Balance.{abs-is, eqZ, bal-sub, sign}
 use Rattle.position.specs.Position.{inRange, wordOf, positionOf}
 
 -- ---- the range, by the two sides of a number
