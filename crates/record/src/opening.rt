@@ -25,7 +25,7 @@ pub const TURN: u8 = 0x06;
 pub const END: u8 = 0x7f;
 
 // Whether a record opens with the five bytes.
-pub fn opens(slice: &[u8]) -> bool
+pub(crate) fn opens(slice: &[u8]) -> bool
     ensures { λ r. ⌜ r ≡ starts opening (now (slice .entry)) ⌝ }
 {
     if slice.len() < 5 {
@@ -42,7 +42,7 @@ pub fn opens(slice: &[u8]) -> bool
 }
 
 // The five opening bytes.
-pub fn put_opening(buf: &mut [u8])
+pub(crate) fn put_opening(buf: &mut [u8])
     requires { ⌜ 5 ≤ length (now buf) ⌝ }
     ensures { λ _. ⌜ now (buf .exit) ≡ sets (now (buf .entry)) 0 opening ⌝ }
 {
