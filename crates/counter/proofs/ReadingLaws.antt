@@ -29,30 +29,6 @@ use Rattle.calls.proofs.ChangeLaws.{counter-moved, counter-holds, to-one, kept-
 use Rattle.calls.proofs.ReasonLaws.{Past, counters-only}
 use Rattle.counter.specs.Reading.{readAxis, readingOf, readingRow, storedRow, readRow}
 
--- A reading that is accepted was one of a counter row.
-pub read-counter : (x : ℕ) (r : Row) (p : ℤ) → readingRow x r ≡ Number p → (statusOf r ≡ Counter) × (readingOf x (axisOf r) ≡ Number p)
-unfolding readingRow
-read-counter x r p e =
-    ⊎-elim
-    (λ h. absurd (refused-not p KIND (h .1)))
-    (λ h. h)
-    (live Refused (Refused KIND) (readingOf x (axisOf r)) (Number p) (refused-not p) (statusOf r) e)
-
--- A position that was read is in the range.
-pub read-in-range : (x : ℕ) (r : Row) (p : ℤ) → readingRow x r ≡ Number p → inRange p ≡ true
-read-in-range x r p e =
-    let a = axisOf r in
-    nearest (a .width) (positionOf (a .word)) p x (read-counter x r p e .1) .0
-
--- What a reading makes of a counter is the counter at the position read.
-pub read-at : (x : Axis) (p : ℤ) → CounterAxis x → readAxis p x ≡ freshAt (counterOf (x .width)) (wordOf p)
-unfolding changed
-read-at x p k = ap (readAxis p) (k .rest)
-
--- A reading within the range keeps a counter.
-pub read-kept : (x : Axis) (p : ℤ) → inRange p ≡ true → CounterAxis x → CounterAxis (readAxis p x)
-read-kept x p i k = counter-moved x (wordOf p) (word-low p i) (word-high p i) k (readAxis p x) (read-at x p k)
-
 -- ---- reasons
 
 reading-past : (w : ℕ) (W : ℤ) (x : ℕ) → Past (refusalIn (widened w W x))
@@ -76,6 +52,32 @@ reading-reasons x r =
 pub reading-is : (x : ℕ) (r : Row) → statusOf r ≡ Counter → readingRow x r ≡ widened (axisOf r .width) (positionOf (axisOf r .word)) x
 unfolding readingRow
 reading-is x r e = rw e
+
+-- ---- a reading that is accepted
+
+-- A reading that is accepted was one of a counter row.
+pub read-counter : (x : ℕ) (r : Row) (p : ℤ) → readingRow x r ≡ Number p → (statusOf r ≡ Counter) × (readingOf x (axisOf r) ≡ Number p)
+unfolding readingRow
+read-counter x r p e =
+    ⊎-elim
+    (λ h. absurd (refused-not p KIND (h .1)))
+    (λ h. h)
+    (live Refused (Refused KIND) (readingOf x (axisOf r)) (Number p) (refused-not p) (statusOf r) e)
+
+-- A position that was read is in the range.
+pub read-in-range : (x : ℕ) (r : Row) (p : ℤ) → readingRow x r ≡ Number p → inRange p ≡ true
+read-in-range x r p e =
+    let a = axisOf r in
+    nearest (a .width) (positionOf (a .word)) p x (read-counter x r p e .1) .0
+
+-- What a reading makes of a counter is the counter at the position read.
+pub read-at : (x : Axis) (p : ℤ) → CounterAxis x → readAxis p x ≡ freshAt (counterOf (x .width)) (wordOf p)
+unfolding changed
+read-at x p k = ap (readAxis p) (k .rest)
+
+-- A reading within the range keeps a counter.
+pub read-kept : (x : Axis) (p : ℤ) → inRange p ≡ true → CounterAxis x → CounterAxis (readAxis p x)
+read-kept x p i k = counter-moved x (wordOf p) (word-low p i) (word-high p i) k (readAxis p x) (read-at x p k)
 
 -- HEADLINE: a reading that is accepted stores the position that it answers, and leaves a counter row a counter.
 pub read-keeps : (x : ℕ) (r q : Row) → readRow x r ≡ To q → (p : ℤ) × (readingRow x r ≡ Number p) × Holds q (statusOf r) (readAxis p (axisOf r))
