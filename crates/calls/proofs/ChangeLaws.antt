@@ -1,9 +1,9 @@
--- The laws of preset, arm, acknowledge and an accepted reading: a sound row stays what it is, and holds the axis that the call makes.
+-- The laws of preset, arm and acknowledge: a sound row stays what it is, and holds the axis that the call makes.
 use Prim.Native.Nat.{ℕ, _<_, _^_}
 use native.Mathlib.Omega.{arith}
 use mathlib.Core.Path.{_≡_, refl, sym, ap, subst}
 use mathlib.Core.Logic.{⊎-elim}
-use mathlib.Core.Bool.{Bool, true, false, _&&_, true≢false}
+use mathlib.Core.Bool.{Bool, true, false, _&&_, and-false, true≢false}
 use lib.Dec.{lit<}
 use lib.IntN.{ℤ}
 use Rattle.integers.proofs.Balance.{Tested, yes, no, test}
@@ -71,11 +71,6 @@ sampled-changed {x} s word armed homed range index doubles above below apart cou
   levels = s .levels;
   runs = s .runs;
 }
-
--- A flag that is clear is not set with another.
-and-false : (a : Bool) → a && false ≡ false
-and-false true = refl
-and-false false = refl
 
 -- A preset within the range keeps a sampled axis.
 pub preset-sampled : (x : Axis) (p : ℤ) → inRange p ≡ true → SampledAxis x → SampledAxis (presetAxis p x)

@@ -1,4 +1,4 @@
--- What each call makes of the named row, and answers: document 01, "Calls that name one axis" and "The saved record".
+-- What setup, erase, preset, arm, acknowledge and view make of the named row, and answer: document 01, "Calls that name one axis".
 use Prim.Native.Nat.{ℕ, _<_, _^_}
 use mathlib.Core.Bool.{cond}
 use lib.IntN.{ℤ}

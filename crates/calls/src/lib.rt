@@ -1,4 +1,4 @@
-// What each call that names one axis makes of that axis's row, and answers.
+// What setup, erase, preset, arm, acknowledge and view make of the row that they name, and answer.
 pub mod answer; // answer.rt: what a call makes of a row, and what it answers
 pub mod setup; // setup.rt: setup and erase
 pub mod change; // change.rt: preset, arm and acknowledge
