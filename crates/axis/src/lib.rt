@@ -2,5 +2,3 @@
 pub mod kind; // kind.rt: the kinds and their numbers
 pub mod config; // config.rt: what an axis is set up as, and its limits
 pub mod row; // row.rt: the four words, the axis that they hold, the erased axis and the one that is set up
-pub mod unpack; // unpack.rt: from a row to its axis
-pub mod pack; // pack.rt: from an axis to its row

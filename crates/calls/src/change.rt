@@ -2,9 +2,9 @@
 ghost use mathlib.Core.Path.{_≡_};
 ghost use Rattle.calls.specs.Calls.{Positioned, placeRow, presetRow, armRow, acknowledgeRow};
 use crate::answer::Changed;
-use axis::pack::pack;
 use axis::row::Row;
-use axis::unpack::unpack;
+use packing::pack::pack;
+use packing::unpack::unpack;
 use refusal::Refusal;
 use sound::Status;
 use sound::classify;

@@ -6,9 +6,9 @@ ghost use Rattle.calls.specs.Calls.{configOf, setupRow, eraseRow};
 use crate::answer::Changed;
 use axis::config::Config;
 use axis::config::is_good;
-use axis::pack::pack;
 use axis::row::Axis;
 use axis::row::Row;
+use packing::pack::pack;
 use refusal::Refusal;
 
 // Four plain numbers within their limits, as a configuration.

@@ -6,7 +6,7 @@ ghost use Rattle.calls.specs.Calls.{Positioned, viewRow};
 use crate::answer::View;
 use crate::answer::Viewed;
 use axis::row::Row;
-use axis::unpack::unpack;
+use packing::unpack::unpack;
 use refusal::Refusal;
 use sound::Status;
 use sound::classify;

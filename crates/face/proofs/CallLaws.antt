@@ -8,10 +8,10 @@ use Rattle.calls.specs.declared.answer.Changed.{Changed}
 use Rattle.table.specs.Call.{viewedIn, speedIn}
 use Rattle.host.specs.Answer.{answerTo}
 use Rattle.host.specs.declared.answer.Answer.{Answer}
-use Rattle.face.specs.Answer.{answerView}
+use Rattle.answers.specs.Answer.{answerView}
 use Rattle.face.specs.Call.{Leaves, SamplesToC, MakesToC, ReadsToC, SavesToC}
-use Rattle.face.specs.declared.sampling.SampledAnswer.{SampledAnswer}
-use Rattle.face.specs.declared.look.ViewAnswer.{ViewAnswer}
+use Rattle.answers.specs.declared.sampled.SampledAnswer.{SampledAnswer}
+use Rattle.answers.specs.declared.view.ViewAnswer.{ViewAnswer}
 
 -- An answer in C's form, of a call that answered and left what is said.
 pub shows : {D A : Type 0} (form : D → A) {d said : D} {a : A} {u left : List ℕ} → a ≡ form d → d ≡ said → u ≡ left → Leaves (form said) left u a

@@ -1,2 +1,2 @@
-pub mod AnswerLaws
+pub mod SaveLaws
 pub mod CallLaws

@@ -13,8 +13,8 @@ use Rattle.port.specs.Port.{sampledTable, sampledAnswer}
 use Rattle.table.specs.Call.{ruled, tableAfter, readIn, saveIn}
 use Rattle.host.specs.Answer.{answerTo}
 use Rattle.host.specs.declared.answer.Answer.{Answer}
-use Rattle.face.specs.Answer.{answerDone, answerWritten, answerSampled}
-use Rattle.face.specs.declared.sampling.SampledAnswer.{SampledAnswer}
+use Rattle.answers.specs.Answer.{answerDone, answerWritten, answerSampled}
+use Rattle.answers.specs.declared.sampled.SampledAnswer.{SampledAnswer}
 
 -- What a call that may write a slice promises: it answers `said`, and the slice holds `left` afterwards.
 pub record Leaves {A : Type 0} (said : A) (left : List ℕ) (u : List ℕ) (a : A) : Type 0 where

@@ -1,7 +1,7 @@
 // Preset, arm and acknowledge.
 ghost use Rattle.calls.specs.Calls.{presetRow, armRow, acknowledgeRow};
 ghost use Rattle.face.specs.Call.{MakesToC};
-use crate::answer::of_done;
+use answers::plain::of_done;
 use host::answer::Answer;
 
 // Another position: LENGTH, AXIS, BROKEN, EMPTY, VALUE.

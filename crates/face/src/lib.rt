@@ -1,8 +1,7 @@
 // Every call on a table, for C: each passes its arguments on to the table's own call and shows the answer as C structs.
-pub mod answer; // answer.rt: what most calls answer
-pub mod sampling; // sampling.rt: a port sample, and what it answers
+pub mod sampling; // sampling.rt: a port sample
 pub mod setup; // setup.rt: setup and erase
 pub mod change; // change.rt: preset, arm and acknowledge
-pub mod look; // look.rt: view, and what it answers; speed by period
+pub mod look; // look.rt: view, and speed by period
 pub mod reading; // reading.rt: a reading of a narrow counter
 pub mod saving; // saving.rt: save and restore

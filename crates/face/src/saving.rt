@@ -1,8 +1,8 @@
 // Save and restore.
 ghost use Rattle.keeping.specs.Saving.{restoreRow};
 ghost use Rattle.face.specs.Call.{MakesToC, SavesToC};
-use crate::answer::of_done;
-use crate::answer::of_written;
+use answers::plain::of_done;
+use answers::plain::of_written;
 use host::answer::Answer;
 
 // The axis's record at the front of a buffer: LENGTH, AXIS, BROKEN, EMPTY, ROOM.

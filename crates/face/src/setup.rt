@@ -1,7 +1,7 @@
 // Setup and erase.
 ghost use Rattle.calls.specs.Calls.{setupRow, eraseRow};
 ghost use Rattle.face.specs.Call.{MakesToC};
-use crate::answer::of_done;
+use answers::plain::of_done;
 use host::answer::Answer;
 
 // An axis set up anew: LENGTH, AXIS, VALUE.

@@ -8,8 +8,8 @@ use borrow.Author.Tests.{le-ltb, ltb-true, ltb-false}
 use lib.Dec.{eqb, ltb}
 use Rattle.axis.specs.declared.row.Axis.{Axis}
 use Rattle.motion.specs.Pace.{older, pacedDirection, pacedAge, stepPeriod, pacedPeriod}
-use Rattle.motion.specs.declared.decode.Move.{Move}
-use Rattle.motion.specs.declared.decode.Move.the-variants.{Still, Forward, Back, Double}
+use Rattle.decode.specs.declared.Move.{Move}
+use Rattle.decode.specs.declared.Move.the-variants.{Still, Forward, Back, Double}
 use Rattle.history.specs.Pace.{directionOf, gapOf, ageOf, spanOf, periodOf}
 
 module _ (x : Axis) (ms : List Move) where

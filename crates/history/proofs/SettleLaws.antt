@@ -6,11 +6,11 @@ use Rattle.position.specs.Position.{inRange, wordOf, positionOf}
 use Rattle.axis.specs.declared.row.Axis.{Axis}
 use Rattle.lines.specs.Lines.{Wire, A, B, Z, placeOf, line}
 use Rattle.lines.specs.Filter.{filtered}
-use Rattle.motion.specs.Decode.{moveTo, entry, isE}
+use Rattle.decode.specs.Decode.{moveTo, entry, isE}
 use Rattle.motion.specs.Index.{rises}
 use Rattle.motion.specs.Count.{countedWord}
 use Rattle.sample.specs.Step.{settle, outcome}
-use Rattle.motion.specs.declared.decode.Move.{Move}
+use Rattle.decode.specs.declared.Move.{Move}
 use Rattle.lines.specs.declared.Line.{Line}
 use Rattle.lines.specs.declared.Raw.{Raw}
 use Rattle.history.specs.Acts.{Act, sampled}

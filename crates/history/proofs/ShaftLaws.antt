@@ -15,10 +15,10 @@ use Rattle.position.specs.Position.{positionOf}
 use Rattle.axis.specs.Kind.{X4}
 use Rattle.axis.specs.declared.row.Axis.{Axis}
 use Rattle.lines.specs.Lines.{A, B, levelOf}
-use Rattle.motion.specs.Decode.{code, x4, tableOf, entryIn, entry, worth, isE}
+use Rattle.decode.specs.Decode.{code, x4, tableOf, entryIn, entry, worth, isE}
 use Rattle.sample.specs.Step.{stepAxis}
-use Rattle.motion.specs.declared.decode.Move.{Move}
-use Rattle.motion.specs.declared.decode.Move.the-variants.{Still, Forward, Back, Double}
+use Rattle.decode.specs.declared.Move.{Move}
+use Rattle.decode.specs.declared.Move.the-variants.{Still, Forward, Back, Double}
 use Rattle.history.specs.Acts.{Act, sampled, after, Legal}
 use Rattle.history.specs.Start.{Start}
 use Rattle.history.specs.Levels.{primedAt}

@@ -5,8 +5,8 @@ use mathlib.Core.List.{List, [], _∷_, _++_}
 use lib.Dec.{eqb}
 use Rattle.axis.specs.declared.row.Axis.{Axis}
 use Rattle.lines.specs.Lines.{A, B}
-use Rattle.motion.specs.Decode.{code, entry, isE}
-use Rattle.motion.specs.declared.decode.Move.{Move}
+use Rattle.decode.specs.Decode.{code, entry, isE}
+use Rattle.decode.specs.declared.Move.{Move}
 use Rattle.lines.specs.declared.Raw.{Raw}
 use Rattle.history.specs.Acts.{Act, sampled, preset, arm, acknowledge}
 use Rattle.history.specs.Levels.{primedAt, levelAt}

@@ -5,11 +5,11 @@ ghost use Rattle.axis.specs.Row.{axisOf};
 ghost use Rattle.calls.specs.Calls.{Positioned};
 ghost use Rattle.keeping.specs.Saving.{savedOf, saveRow, savedIn, restoreRow};
 use axis::config::Config;
-use axis::pack::pack;
 use axis::row::Axis;
 use axis::row::Row;
-use axis::unpack::unpack;
 use calls::answer::Changed;
+use packing::pack::pack;
+use packing::unpack::unpack;
 use record::answer::Read;
 use record::answer::Saved;
 use record::answer::Written;
@@ -41,8 +41,8 @@ pub fn save(r: Row, buf: &mut [u8]) -> Written
     match classify(r) {
         Status::Broken => Written::Refused(Refusal::Broken),
         Status::Empty => Written::Refused(Refusal::Empty),
-        Status::Sampled => record::writer::save(buf, kept(r)),
-        Status::Counter => record::writer::save(buf, kept(r)),
+        Status::Sampled => writer::save(buf, kept(r)),
+        Status::Counter => writer::save(buf, kept(r)),
     }
 }
 

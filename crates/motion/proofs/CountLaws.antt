@@ -9,10 +9,10 @@ use lib.IntN.{ℤ, pos, negsuc, _+ℤ_, +ℤ-idr}
 use Rattle.integers.proofs.Balance.{bal-add, eqZ}
 use Rattle.position.specs.Position.{inRange, positionOf}
 use Rattle.position.proofs.PositionLaws.{bal-position, range-is, position-in-range}
-use Rattle.motion.specs.Decode.{worth, isE}
+use Rattle.decode.specs.Decode.{worth, isE}
 use Rattle.motion.specs.Count.{countedWord, countedRange, countedDoubles, Reach}
-use Rattle.motion.specs.declared.decode.Move.{Move}
-use Rattle.motion.specs.declared.decode.Move.the-variants.{Still, Forward, Back, Double}
+use Rattle.decode.specs.declared.Move.{Move}
+use Rattle.decode.specs.declared.Move.the-variants.{Still, Forward, Back, Double}
 
 -- ---- a step that is taken where a test passes, and held where it does not
 

@@ -7,8 +7,8 @@ use borrow.Author.Tests.{ltb-true, lt-ltb, eq-eqb, ne-eqb}
 use lib.Dec.{ltb, lit<, lit≤}
 use Rattle.integers.proofs.Balance.{Tested, yes, no, test}
 use Rattle.motion.specs.Pace.{older, pacedDirection, pacedAge, stepPeriod, pacedPeriod}
-use Rattle.motion.specs.declared.decode.Move.{Move}
-use Rattle.motion.specs.declared.decode.Move.the-variants.{Still, Forward, Back, Double}
+use Rattle.decode.specs.declared.Move.{Move}
+use Rattle.decode.specs.declared.Move.the-variants.{Still, Forward, Back, Double}
 
 -- ---- what a row can hold: direction, age, period, and no period where there is no direction
 

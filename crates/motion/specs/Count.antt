@@ -2,10 +2,10 @@
 use Prim.Native.Nat.{ℕ, _+_, _-_, _^_, _<_, min}
 use mathlib.Core.Bool.{Bool, true, cond}
 use lib.Dec.{ltb}
-use Rattle.motion.specs.Decode.{isE}
+use Rattle.decode.specs.Decode.{isE}
 use Rattle.motion.specs.declared.count.Counted.{Counted}
-use Rattle.motion.specs.declared.decode.Move.{Move}
-use Rattle.motion.specs.declared.decode.Move.the-variants.{Still, Forward, Back, Double}
+use Rattle.decode.specs.declared.Move.{Move}
+use Rattle.decode.specs.declared.Move.the-variants.{Still, Forward, Back, Double}
 
 -- Word 0 after an entry: + and - change it by 1, unless the position would leave its range.
 unfoldable pub countedWord : Move → ℕ → ℕ

@@ -1,4 +1,3 @@
-pub mod Decode
 pub mod Count
 pub mod Pace
 pub mod Index

@@ -2,8 +2,8 @@
 use Prim.Native.Nat.{ℕ, _+_, _-_, _^_, min}
 use mathlib.Core.Bool.{cond, _&&_}
 use lib.Dec.{eqb, ltb}
-use Rattle.motion.specs.declared.decode.Move.{Move}
-use Rattle.motion.specs.declared.decode.Move.the-variants.{Still, Forward, Back, Double}
+use Rattle.decode.specs.declared.Move.{Move}
+use Rattle.decode.specs.declared.Move.the-variants.{Still, Forward, Back, Double}
 use Rattle.motion.specs.declared.pace.Pace.{Pace}
 
 -- The age one sample on, at most 2 ^ 32 - 1.

@@ -1,8 +1,8 @@
 // Position, RANGE and doubles after an entry.
 ghost use mathlib.Core.Path.{_≡_};
 ghost use Rattle.motion.specs.Count.{countedBy, countedDoubles};
-use crate::decode::Move;
-use crate::decode::is_double;
+use decode::Move;
+use decode::is_double;
 
 // The words of the last position and of the first.
 const LAST: u64 = 0x7fff_ffff_ffff_ffff;

@@ -1,7 +1,7 @@
 // Direction, age and period after an entry.
 ghost use mathlib.Core.Path.{_≡_};
 ghost use Rattle.motion.specs.Pace.{older, stepPeriod, pacedBy};
-use crate::decode::Move;
+use decode::Move;
 
 // The directions.
 const NONE: u8 = 0;

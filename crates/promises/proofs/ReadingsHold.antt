@@ -9,7 +9,7 @@ use Rattle.reckon.specs.Speed.{goodCount, speedByCount}
 use Rattle.sound.specs.Sound.{statusOf}
 use Rattle.lines.specs.Lines.{placeOf, levelOf, line}
 use Rattle.lines.specs.Filter.{filterLine, filtered}
-use Rattle.motion.specs.Decode.{x1, x2, x4, tableOf, entryIn, isE, moveTo}
+use Rattle.decode.specs.Decode.{x1, x2, x4, tableOf, entryIn, isE, moveTo}
 use Rattle.motion.specs.Count.{countedWord, countedRange, countedDoubles}
 use Rattle.motion.specs.Pace.{older, pacedDirection, pacedAge, stepPeriod, pacedPeriod}
 use Rattle.motion.specs.Index.{rises, offTurn}

@@ -15,7 +15,8 @@ use Rattle.record.specs.declared.answer.Read.{Read}
 use Rattle.record.specs.declared.answer.Read.the-variants.{Accepted, Refused}
 use Rattle.tagged.specs.declared.field.Field.the-variants.{Value as Of, Bad}
 use Rattle.tagged.specs.Bytes.{numberAt, starts}
-use Rattle.record.specs.Record.{onField, check, layoutOr, unopened, knownKind, within, saying, endedAt, counterAt, sampledAt, readAs, opening, LAYOUT, KIND, DEPTH, WIDTH, TURN, END}
+use Rattle.opening.specs.Opening.{opening}
+use Rattle.record.specs.Record.{onField, check, layoutOr, unopened, knownKind, within, saying, endedAt, counterAt, sampledAt, readAs, LAYOUT, KIND, DEPTH, WIDTH, TURN, END}
 use Rattle.tagged.specs.Field.{standsAt, fieldAt}
 use Rattle.record.specs.Order.{otherLayout, layoutIn, nineStand, kindIn, restStands, saidIn, Judged, other-layout, bad-nine, bad-kind, bad-rest, bad-value, all-good}
 

@@ -26,7 +26,8 @@ use Rattle.record.specs.declared.answer.Written.{Written}
 use Rattle.record.specs.declared.answer.Written.the-variants.{Refused as Unwritten}
 use Rattle.tagged.specs.Bytes.{AllBytes, numberIn, numberFrom, bytesOf, starts}
 use Rattle.record.specs.Answer.{readNumber, readFound, testedOf, testedNumber, testedFound}
-use Rattle.record.specs.Record.{within, readAs, testedAs, opening, headBytes, counterBytes, sampledBytes, recordOf, savedAs, written, Saves, Shaped, LAYOUT}
+use Rattle.opening.specs.Opening.{opening}
+use Rattle.record.specs.Record.{within, readAs, testedAs, headBytes, counterBytes, sampledBytes, recordOf, savedAs, written, Saves, Shaped, LAYOUT}
 use Rattle.tagged.specs.Field.{fieldBytes}
 use Rattle.record.specs.Order.{otherLayout, layoutIn, Judged, other-layout, bad-nine, bad-kind, bad-rest, bad-value, all-good}
 use Rattle.tagged.proofs.BytesLaws.{number-back, starts-is}

@@ -17,7 +17,8 @@ use Rattle.axis.specs.declared.config.Config.{Config}
 use Rattle.record.specs.declared.answer.Saved.{Saved}
 use Rattle.record.specs.declared.answer.Read.the-variants.{Accepted}
 use Rattle.tagged.specs.Bytes.{AllBytes, numberAt, bytesOf, starts}
-use Rattle.record.specs.Record.{knownKind, within, saying, readAs, opening, headBytes, counterBytes, sampledBytes, recordOf, KIND, POSITION, DEPTH, WIDTH, TURN, END}
+use Rattle.opening.specs.Opening.{opening}
+use Rattle.record.specs.Record.{knownKind, within, saying, readAs, headBytes, counterBytes, sampledBytes, recordOf, KIND, POSITION, DEPTH, WIDTH, TURN, END}
 use Rattle.tagged.specs.Field.{headAt, standsAt, fieldBytes}
 use Rattle.record.specs.Order.{nineStand, kindIn, restStands, saidIn, all-good}
 use Rattle.tagged.proofs.BytesLaws.{bytes-drop, bytes-take, number-below, number-back, bytes-back, starts-is}

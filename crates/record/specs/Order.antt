@@ -12,7 +12,8 @@ use Rattle.record.specs.declared.answer.Saved.{Saved}
 use Rattle.record.specs.declared.answer.Read.{Read}
 use Rattle.record.specs.declared.answer.Read.the-variants.{Accepted, Refused}
 use Rattle.tagged.specs.Bytes.{numberAt, starts}
-use Rattle.record.specs.Record.{opening, knownKind, saying, within, LAYOUT, KIND, POSITION, DEPTH, WIDTH, TURN, END}
+use Rattle.opening.specs.Opening.{opening}
+use Rattle.record.specs.Record.{knownKind, saying, within, LAYOUT, KIND, POSITION, DEPTH, WIDTH, TURN, END}
 use Rattle.tagged.specs.Field.{standsAt}
 
 -- Whether a slice opens 01 00 02 with two more bytes that are not 00 01.

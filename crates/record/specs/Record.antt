@@ -24,6 +24,7 @@ use Rattle.tagged.specs.declared.field.Field.{Field}
 use Rattle.tagged.specs.declared.field.Field.the-variants.{Value as Of, Bad}
 use Rattle.tagged.specs.Bytes.{starts}
 use Rattle.tagged.specs.Field.{fieldAt, fieldBytes}
+use Rattle.opening.specs.Opening.{opening}
 use Rattle.record.specs.Answer.{testedOf}
 
 -- The tags of the fields.
@@ -47,10 +48,6 @@ TURN = 6
 
 abbrev pub END : ℕ
 END = 127
-
--- The five bytes that every record opens with.
-abbrev pub opening : List ℕ
-opening = 1 ∷ 0 ∷ 2 ∷ 0 ∷ 1 ∷ []
 
 -- ---- reading
 

@@ -8,7 +8,7 @@ use Rattle.axis.specs.declared.row.Axis.{Axis}
 use Rattle.sound.specs.Sound.{SampledAxis}
 use Rattle.lines.specs.Lines.{A, B, Z, placeOf, levelOf, line}
 use Rattle.lines.specs.Filter.{filtered, Short}
-use Rattle.motion.specs.Decode.{moveTo}
+use Rattle.decode.specs.Decode.{moveTo}
 use Rattle.motion.specs.Count.{Reach}
 use Rattle.motion.specs.Index.{rises, offTurn}
 use Rattle.sample.specs.Step.{primedBy, settle, advanced, outcome, stepAxis}

@@ -6,7 +6,7 @@ use Rattle.position.specs.Position.{positionOf}
 use Rattle.axis.specs.declared.row.Axis.{Axis}
 use Rattle.lines.specs.Lines.{Wire, A, B, Z, placeOf, levelOf, line, three}
 use Rattle.lines.specs.Filter.{filtered, linesBy}
-use Rattle.motion.specs.Decode.{isE, moveTo, worth}
+use Rattle.decode.specs.Decode.{isE, moveTo, worth}
 use Rattle.motion.specs.Index.{rises}
 use Rattle.sample.specs.Step.{primedBy, settle, moveOf, zRose, advanced, outcome, stepAxis}
 use Rattle.sample.specs.After.{Configured, Primed, Entered, Moved, Homed}

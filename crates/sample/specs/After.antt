@@ -5,7 +5,7 @@ use lib.IntN.{pos}
 use Rattle.position.specs.Position.{positionOf}
 use Rattle.axis.specs.declared.row.Axis.{Axis}
 use Rattle.lines.specs.Lines.{Wire, levelOf, line}
-use Rattle.motion.specs.Decode.{moveTo}
+use Rattle.decode.specs.Decode.{moveTo}
 use Rattle.motion.specs.Count.{countedWord, countedRange, countedDoubles}
 use Rattle.motion.specs.Pace.{pacedDirection, pacedAge, pacedPeriod}
 use Rattle.motion.specs.Index.{rises, offTurn}

@@ -11,11 +11,11 @@ use Rattle.sound.specs.declared.Status.{Status}
 use Rattle.sound.specs.declared.Status.the-variants.{Empty, Sampled, Counter, Broken}
 use Rattle.lines.specs.Lines.{Wire, A, B, Z, rawOf}
 use Rattle.lines.specs.Filter.{filtered}
-use Rattle.motion.specs.Decode.{isE, moveTo}
+use Rattle.decode.specs.Decode.{isE, moveTo}
 use Rattle.motion.specs.Count.{countedWord, countedRange, countedDoubles}
 use Rattle.motion.specs.Pace.{pacedDirection, pacedAge, pacedPeriod}
 use Rattle.motion.specs.Index.{rises, offTurn}
-use Rattle.motion.specs.declared.decode.Move.{Move}
+use Rattle.decode.specs.declared.Move.{Move}
 use Rattle.lines.specs.declared.Line.{Line}
 use Rattle.lines.specs.declared.Raw.{Raw}
 use Rattle.sample.specs.declared.step.Stepped.{Stepped}

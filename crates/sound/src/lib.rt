@@ -5,7 +5,7 @@ ghost use Rattle.sound.specs.Sound.{isEmpty, isPlain, isFresh, isShort, 
 use axis::config;
 use axis::row::Axis;
 use axis::row::Row;
-use axis::unpack;
+use packing::unpack;
 
 // What a row is.
 pub enum Status {

@@ -4,7 +4,7 @@ ghost use Prim.Native.Nat.{max};
 ghost use Rattle.speed.specs.Speed.{signOf, speedOf, speedRow};
 use axis::row::Axis;
 use axis::row::Row;
-use axis::unpack::unpack;
+use packing::unpack::unpack;
 use reckon::Reckoned;
 use refusal::Refusal;
 use sound::Status;

@@ -1,4 +1,4 @@
-use Rattle.face.specs.Answer.{answerDone}
+use Rattle.answers.specs.Answer.{answerDone}
 use Rattle.face.proofs.CallLaws.{shows}
 use borrow.Author.Needs.{needs}
 use Rattle.face.proofs.change.ubrenchip_acknowledge.Statement.{statement}

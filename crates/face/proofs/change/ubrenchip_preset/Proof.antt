@@ -1,5 +1,5 @@
 use Rattle.integers.proofs.Machine.{back}
-use Rattle.face.specs.Answer.{answerDone}
+use Rattle.answers.specs.Answer.{answerDone}
 use Rattle.face.proofs.CallLaws.{shows}
 use borrow.Author.Needs.{needs}
 use Rattle.face.proofs.change.ubrenchip_preset.Statement.{statement}

@@ -1,5 +1,5 @@
 use mathlib.Core.Path.{ap, _∙_}
-use Rattle.face.specs.Answer.{answerView}
+use Rattle.answers.specs.Answer.{answerView}
 use borrow.Author.Needs.{needs}
 use Rattle.face.proofs.look.ubrenchip_look.Statement.{statement}
 use Rattle.face.proofs.look.ubrenchip_look.Tie as tie

@@ -1,4 +1,4 @@
-use Rattle.face.specs.Answer.{answerSampled}
+use Rattle.answers.specs.Answer.{answerSampled}
 use Rattle.face.proofs.CallLaws.{shows}
 use borrow.Author.Needs.{needs}
 use Rattle.face.proofs.sampling.ubrenchip_sample.Statement.{statement}

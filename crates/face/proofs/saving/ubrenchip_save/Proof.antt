@@ -1,6 +1,6 @@
-use Rattle.face.specs.Answer.{answerWritten}
+use Rattle.answers.specs.Answer.{answerWritten}
 use Rattle.face.proofs.CallLaws.{shows}
-use Rattle.face.proofs.AnswerLaws.{save-few}
+use Rattle.face.proofs.SaveLaws.{save-few}
 use borrow.Author.Needs.{needs}
 use Rattle.face.proofs.saving.ubrenchip_save.Statement.{statement}
 use Rattle.face.proofs.saving.ubrenchip_save.Tie as tie

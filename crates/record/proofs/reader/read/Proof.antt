@@ -7,7 +7,8 @@ use mir.Val.{Fits}
 use Rattle.record.specs.declared.answer.Read.the-variants.{Refused}
 use Rattle.tagged.specs.declared.field.Field.the-variants.{Value}
 use Rattle.tagged.specs.Bytes.{starts}
-use Rattle.record.specs.Record.{readAs, opening, knownKind, KIND, POSITION}
+use Rattle.opening.specs.Opening.{opening}
+use Rattle.record.specs.Record.{readAs, knownKind, KIND, POSITION}
 use Rattle.tagged.specs.Field.{fieldAt}
 use Rattle.tagged.proofs.FieldLaws.{field-below}
 use Rattle.record.proofs.reader.read.Statement.{statement}
