@@ -76,27 +76,6 @@ module _ (rate : ℕ) (r : Row) (sampled : statusOf r ≡ Sampled) where
       let s = sampled-gives r sampled in
       one-or-two (a .direction) (s .direction) (λ z. let idle : ⊥ = omega (arith, s .resting z) in idle)
 
--- What a speed was reckoned from.
-speed-from : (rate : ℕ) (r : Row) (v : ℤ) → speedRow rate r ≡ Number v →
-    (statusOf r ≡ Sampled) × (speedByCount (signOf (axisOf r .direction)) (spanOf (axisOf r)) rate ≡ Number v)
-unfolding speedRow speedOf
-speed-from rate r v e =
-    ⊎-elim
-    (λ h. (h .0, go (test (goodRate rate)) (test (eqb (axisOf r .period) 0)) (h .1)))
-    (λ h. absurd (refused-not v KIND (h .1)))
-    (live Refused (speedOf rate (axisOf r)) (Refused KIND) (Number v) (refused-not v) (statusOf r) e)
-  where
-    go : Tested (goodRate rate) → Tested (eqb (axisOf r .period) 0) → speedOf rate (axisOf r) ≡ Number v →
-        speedByCount (signOf (axisOf r .direction)) (spanOf (axisOf r)) rate ≡ Number v
-    go (no g) t h = absurd (refused-not v VALUE (rw g at h))
-    go (yes g) (yes z) h = absurd (refused-not v NO-PERIOD (rw (g, z) at h))
-    go (yes g) (no z) h = rw (g, z) at h
-
--- HEADLINE: with T the larger of period and age, twice |v T - 1000 F| is at most T, F with the direction's sign.
-pub speed-bound : (rate : ℕ) (r : Row) (v : ℤ) → speedRow rate r ≡ Number v →
-    2 * natAbs ((v *ℤ pos (spanOf (axisOf r))) -ℤ (signOf (axisOf r .direction) *ℤ pos (1000 * rate))) ≤ spanOf (axisOf r)
-speed-bound rate r v e = speed-near (signOf (axisOf r .direction)) (spanOf (axisOf r)) rate v (speed-from rate r v e .1)
-
 -- ---- reasons
 
 count-past : (D : ℤ) (T F : ℕ) → Past (refusalIn (speedByCount D T F))
@@ -120,3 +99,26 @@ speed-past rate a = go (test (goodRate rate)) (test (eqb (a .period) 0))
 pub speed-reasons : (rate : ℕ) (r : Row) → Told (refusalIn (speedRow rate r)) (statusOf r) (statusOf r ≡ Counter)
 unfolding speedRow
 speed-reasons rate r = sampled-only refusalIn Refused (λ e. refl) (speedOf rate (axisOf r)) (speed-past rate (axisOf r)) (statusOf r)
+
+-- ---- what it was reckoned from
+
+-- What a speed was reckoned from.
+speed-from : (rate : ℕ) (r : Row) (v : ℤ) → speedRow rate r ≡ Number v →
+    (statusOf r ≡ Sampled) × (speedByCount (signOf (axisOf r .direction)) (spanOf (axisOf r)) rate ≡ Number v)
+unfolding speedRow speedOf
+speed-from rate r v e =
+    ⊎-elim
+    (λ h. (h .0, go (test (goodRate rate)) (test (eqb (axisOf r .period) 0)) (h .1)))
+    (λ h. absurd (refused-not v KIND (h .1)))
+    (live Refused (speedOf rate (axisOf r)) (Refused KIND) (Number v) (refused-not v) (statusOf r) e)
+  where
+    go : Tested (goodRate rate) → Tested (eqb (axisOf r .period) 0) → speedOf rate (axisOf r) ≡ Number v →
+        speedByCount (signOf (axisOf r .direction)) (spanOf (axisOf r)) rate ≡ Number v
+    go (no g) t h = absurd (refused-not v VALUE (rw g at h))
+    go (yes g) (yes z) h = absurd (refused-not v NO-PERIOD (rw (g, z) at h))
+    go (yes g) (no z) h = rw (g, z) at h
+
+-- HEADLINE: with T the larger of period and age, twice |v T - 1000 F| is at most T, F with the direction's sign.
+pub speed-bound : (rate : ℕ) (r : Row) (v : ℤ) → speedRow rate r ≡ Number v →
+    2 * natAbs ((v *ℤ pos (spanOf (axisOf r))) -ℤ (signOf (axisOf r .direction) *ℤ pos (1000 * rate))) ≤ spanOf (axisOf r)
+speed-bound rate r v e = speed-near (signOf (axisOf r .direction)) (spanOf (axisOf r)) rate v (speed-from rate r v e .1)

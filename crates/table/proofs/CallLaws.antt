@@ -60,12 +60,7 @@ module _ (t : List ℕ) (k : ℕ) (b : List ℕ) where
   pub found-saves : (r : Row) {d : List ℕ} {a : Written} → located t k ≡ At r → a ≡ saveRow (length b) r → d ≡ savedIn b r → Saves t k b d a
   found-saves r q p e = record { answer = p ∙ rw q; buffer = e ∙ rw q }
 
--- ---- only the named row changes
-
-spares : (t : List ℕ) (k : ℕ) (c : Changed) → Spares t k (tableAfter t k c)
-unfolding tableAfter
-spares t k (Kept e) = record { size = refl; words = λ i h. refl; rows = λ j h. refl }
-spares t k (To r) = record { size = length-setRow t k r; words = λ i h. word-other t k i r h; rows = λ j h. row-other t k j r h }
+-- ---- the named row changes, and no other
 
 -- The named row after a call that made another, which was there to be replaced.
 pub replaced : (rule : Row → Changed) (t : List ℕ) (k : ℕ) (r : Row) → ruled rule t k ≡ To r →
@@ -78,6 +73,12 @@ replaced rule t k r = go (located t k) refl
     go (At s) q p =
         let f = found t k s q in
         (f .0, rw (f .1) p, row-same t k r (found-fits t k s q))
+
+-- Every other row, and every word outside the named one, after any call.
+spares : (t : List ℕ) (k : ℕ) (c : Changed) → Spares t k (tableAfter t k c)
+unfolding tableAfter
+spares t k (Kept e) = record { size = refl; words = λ i h. refl; rows = λ j h. refl }
+spares t k (To r) = record { size = length-setRow t k r; words = λ i h. word-other t k i r h; rows = λ j h. row-other t k j r h }
 
 module _ (rule : Row → Changed) {t u : List ℕ} {k : ℕ} where
   -- HEADLINE: setup, erase, preset, arm, acknowledge and restore change the named row alone.

@@ -6,7 +6,7 @@ read-row-requires : tie.Need-read-row-requires
 read-row-requires c κs = c .before .before .pre .1
 
 nibble-requires : tie.Need-nibble-requires
-nibble-requires c κs = c .before .before .before .pre .0
+nibble-requires c κs = search needs
 
 step-row-requires : tie.Need-step-row-requires
 step-row-requires c κs = tt

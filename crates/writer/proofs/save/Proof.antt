@@ -1,6 +1,7 @@
 use borrow.Author.Needs.{needs}
 use mathlib.Core.Path.{_≡_, sym, ap, _∙_}
 use mathlib.Core.Bool.{true}
+use native.Mathlib.Omega.{arith}
 use borrow.Author.Tests.{not-true, not-false}
 use mir.Syntax.{w64}
 use mir.Val.{SFits, ofZ}
@@ -67,7 +68,7 @@ returns-4 : tie.Need-returns-4
 returns-4 c =
     let i = c .before .before in
     let a = start i .args in
-    sampled-full (a .buf .now) (a .saved) (good i) (sym (i .is-counter .ensures) ∙ c .before .if2 .left) (c .if4 .taken)
+    sampled-full (a .buf .now) (a .saved) (good i) (sym (i .is-counter .ensures) ∙ c .before .if2 .left) (omega arith)
 
 cast-put-sampled : tie.Need-cast-put-sampled
 cast-put-sampled c = search needs

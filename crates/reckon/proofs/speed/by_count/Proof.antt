@@ -77,7 +77,10 @@ mul-to-nearest : tie.Need-mul-to-nearest
 mul-to-nearest c = rw (read c, read-f c) (fits c)
 
 to-nearest-requires : tie.Need-to-nearest-requires
-to-nearest-requires c κs = rw (read c, read-f c, back (fits c)) (small c, samples-are _ (samples (c .before .before)) .0, samples-are _ (samples (c .before .before)) .1)
+to-nearest-requires c κs =
+    let n = samples-are (s c .args .samples) (samples (c .before .before)) in
+    let r = rate-is (s c .args .rate) (rate c) in
+    rw (read c, read-f c, back (fits c)) (small c, omega (arith, n, r), omega (arith, n, r))
 
 returns-4 : tie.Need-returns-4
 returns-4 c =

@@ -30,14 +30,14 @@ slice-aggregate-put-line c = search needs
 size-requires : tie.Need-size-requires
 size-requires c κs = search needs
 
+returns : tie.Need-returns
+returns c = rw (line-below (c .before .before .before)) (c .before .before .put-line .ensures)
+
 put-line-requires : tie.Need-put-line-requires
 put-line-requires c κs = omega (arith, ap length (line-below c))
 
 same-length : tie.Need-same-length
 same-length c = search needs
-
-returns : tie.Need-returns
-returns c = rw (line-below (c .before .before .before)) (c .before .before .put-line .ensures)
 
 slice-aggregate-put-line-2 : tie.Need-slice-aggregate-put-line-2
 slice-aggregate-put-line-2 c = search needs
