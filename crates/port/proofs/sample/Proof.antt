@@ -26,6 +26,13 @@ abbrev μ-loop : tie.MeasureT-loop
 axes-in-requires : tie.Need-axes-in-requires Inv-loop μ-loop
 axes-in-requires c κs = search needs
 
+returns-2 : tie.Need-returns-2 Inv-loop μ-loop
+returns-2 c =
+    let v = c .before .loop .inv in
+    let a = c .before .before .before .before .before .args in
+    let w = sample-all (a .table .now) (a .port) (c .before .loop .k) (omega arith) (omega arith) in
+    record { answer = cc (w .answer); table = v .table ∙ w .table }
+
 returns : tie.Need-returns Inv-loop μ-loop
 returns c = sample-none _ _ (sym (c .before .axes-in .ensures) ∙ c .if1 .taken)
 
@@ -66,13 +73,6 @@ loop-again c =
 
 same-length : tie.Need-same-length Inv-loop μ-loop
 same-length c = ap length (c .before .loop .inv .table) ∙ length-sampledTo _ _ _
-
-returns-2 : tie.Need-returns-2 Inv-loop μ-loop
-returns-2 c =
-    let v = c .before .loop .inv in
-    let a = c .before .before .before .before .before .args in
-    let w = sample-all (a .table .now) (a .port) (c .before .loop .k) (omega arith) (omega arith) in
-    record { answer = cc (w .answer); table = v .table ∙ w .table }
 
 pub sample-spec : {M : Type 1} → statement M
 sample-spec =
