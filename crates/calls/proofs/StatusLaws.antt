@@ -18,37 +18,32 @@ use Rattle.axis.specs.declared.row.Axis.{Axis}
 use Rattle.axis.specs.declared.row.Row.{Row}
 use Rattle.sound.specs.declared.Status.{Status}
 use Rattle.sound.specs.declared.Status.the-variants.{Empty, Sampled, Counter, Broken}
-use Rattle.axis.proofs.RowLaws.{row-held}
 use Rattle.sound.proofs.SoundLaws.{sampled-gives, counter-gives}
 use Rattle.calls.specs.Change.{changed}
 use Rattle.calls.specs.Calls.{Positioned, byStatus}
 
 -- A sampled row has a position.
-pub sampled-positioned : (r : Row) → statusOf r ≡ Sampled → Positioned r
-sampled-positioned r e = let s = sampled-gives r e in record { above = s .above; below = s .below; turn = s .turn }
+pub sampled-positioned : (r : Row) → statusOf r ≡ Sampled → Positioned (axisOf r)
+sampled-positioned r e = let s = sampled-gives r e in record { above = s .above; below = s .below }
 
 -- A counter row has a position.
-pub counter-positioned : (r : Row) → statusOf r ≡ Counter → Positioned r
-counter-positioned r e =
-    let k = counter-gives r e in
-    record { above = k .above; below = k .below; turn = omega (arith, ap (λ (a : Axis). a .turn) (k .rest)) }
+pub counter-positioned : (r : Row) → statusOf r ≡ Counter → Positioned (axisOf r)
+counter-positioned r e = let k = counter-gives r e in record { above = k .above; below = k .below }
 
--- The axis of a row packs again, whatever its word, its flags and its doubles become.
-pub packs : (a : Axis) (r : Row) → a ≡ axisOf r → (word : ℕ) (armed homed range index : Bool) (doubles : ℕ) → doubles < 2 ^ 16 →
+-- An axis within its widths packs, whatever its word, its flags and its doubles become.
+pub packs : {a : Axis} → Narrow a → (word : ℕ) (armed homed range index : Bool) (doubles : ℕ) → doubles < 2 ^ 16 →
     Narrow (changed a word armed homed range index doubles)
 unfolding changed
-packs a r e word armed homed range index doubles below =
-    let n : Narrow a = subst Narrow (sym e) (row-held r .narrow) in
-    record {
-      kind = n .kind;
-      depth = n .depth;
-      width = n .width;
-      runA = n .runA;
-      runB = n .runB;
-      runZ = n .runZ;
-      doubles = below;
-      direction = n .direction;
-    }
+packs n word armed homed range index doubles below = record {
+  kind = n .kind;
+  depth = n .depth;
+  width = n .width;
+  runA = n .runA;
+  runB = n .runB;
+  runZ = n .runZ;
+  doubles = below;
+  direction = n .direction;
+}
 
 -- The machine holds a position as it is.
 pub held-position : (p : ℤ) → inRange p ≡ true → toZ w64 (ofZ w64 p) ≡ p
@@ -67,7 +62,7 @@ abbrev pub Live : Row → Type 0
 Live r = (statusOf r ≡ Sampled) ⊎ (statusOf r ≡ Counter)
 
 -- It has a position.
-pub live-position : (r : Row) → Live r → Positioned r
+pub live-position : (r : Row) → Live r → Positioned (axisOf r)
 live-position r (inl e) = sampled-positioned r e
 live-position r (inr e) = counter-positioned r e
 

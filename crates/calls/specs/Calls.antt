@@ -9,6 +9,7 @@ use Rattle.axis.specs.Config.{goodConfig}
 use Rattle.axis.specs.Row.{axisOf, rowOf, emptyRow, fresh}
 use Rattle.sound.specs.Sound.{statusOf}
 use Rattle.axis.specs.declared.config.Config.{Config}
+use Rattle.axis.specs.declared.row.Axis.{Axis}
 use Rattle.axis.specs.declared.row.Row.{Row}
 use Rattle.sound.specs.declared.Status.{Status}
 use Rattle.sound.specs.declared.Status.the-variants.{Empty, Sampled, Counter, Broken}
@@ -53,15 +54,18 @@ eraseRow r = To emptyRow
 
 -- ---- calls on a row that is sound and not empty
 
--- What every such row has: word 0 is that of a position, and word 3 is below 2 ^ 32.
-pub record Positioned (r : Row) : Type 0 where
-  pub above : 0 < r .w0
-  pub below : r .w0 < 2 ^ 63
-  pub turn : r .w3 < 2 ^ 32
+-- What the axis of every such row has: its word is that of a position.
+pub record Positioned (a : Axis) : Type 0 where
+  pub above : 0 < a .word
+  pub below : a .word < 2 ^ 63
+
+-- A preset on the axis of such a row.
+abbrev pub placeAxis : ℤ → Axis → Changed
+placeAxis p x = cond (inRange p) (To (rowOf (presetAxis p x))) (Kept VALUE)
 
 -- A preset on such a row.
 unfoldable pub placeRow : ℤ → Row → Changed
-placeRow p r = cond (inRange p) (To (rowOf (presetAxis p (axisOf r)))) (Kept VALUE)
+placeRow p r = placeAxis p (axisOf r)
 
 -- Preset, on a sampled row and on a counter.
 unfoldable pub presetRow : ℤ → Row → Changed

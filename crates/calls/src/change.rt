@@ -1,23 +1,24 @@
-// Preset, arm and acknowledge: the row is unpacked, its axis changed, and packed again.
+// Preset, arm and acknowledge: the row is opened, its axis changed, and packed again.
 ghost use mathlib.Core.Path.{_≡_};
-ghost use Rattle.calls.specs.Calls.{Positioned, placeRow, presetRow, armRow, acknowledgeRow};
+ghost use Rattle.axis.specs.Row.{Narrow};
+ghost use Rattle.calls.specs.Calls.{placeAxis, presetRow, armRow, acknowledgeRow};
 use crate::answer::Changed;
+use axis::row::Axis;
 use axis::row::Row;
 use packing::pack::pack;
-use packing::unpack::unpack;
 use refusal::Refusal;
 use sound::Status;
-use sound::classify;
+use sound::open;
 
-// A row put at another position, with HOMED and RANGE cleared.
-fn placed(r: Row, position: i64) -> Changed
-    requires { ⌜ Positioned r ⌝ }
-    ensures { λ c. ⌜ c ≡ placeRow position r ⌝ }
+// An axis put at another position, with HOMED and RANGE cleared.
+fn placed(x: Axis, position: i64) -> Changed
+    requires { ⌜ Narrow x ⌝ }
+    ensures { λ c. ⌜ c ≡ placeAxis position x ⌝ }
 {
     if !position::in_range(position) {
         return Changed::Kept(Refusal::Value);
     }
-    let mut moved = unpack(r);
+    let mut moved = x;
     moved.word = position::word_of(position);
     moved.homed = false;
     moved.range = false;
@@ -28,11 +29,14 @@ fn placed(r: Row, position: i64) -> Changed
 pub fn preset(r: Row, position: i64) -> Changed
     ensures { λ c. ⌜ c ≡ presetRow position r ⌝ }
 {
-    match classify(r) {
+    let opened = open(r);
+    let status = opened.status;
+    let axis = opened.axis;
+    match status {
         Status::Broken => Changed::Kept(Refusal::Broken),
         Status::Empty => Changed::Kept(Refusal::Empty),
-        Status::Sampled => placed(r, position),
-        Status::Counter => placed(r, position),
+        Status::Sampled => placed(axis, position),
+        Status::Counter => placed(axis, position),
     }
 }
 
@@ -40,12 +44,15 @@ pub fn preset(r: Row, position: i64) -> Changed
 pub fn arm(r: Row) -> Changed
     ensures { λ c. ⌜ c ≡ armRow r ⌝ }
 {
-    match classify(r) {
+    let opened = open(r);
+    let status = opened.status;
+    let axis = opened.axis;
+    match status {
         Status::Broken => Changed::Kept(Refusal::Broken),
         Status::Empty => Changed::Kept(Refusal::Empty),
         Status::Counter => Changed::Kept(Refusal::Kind),
         Status::Sampled => {
-            let mut armed = unpack(r);
+            let mut armed = axis;
             armed.armed = true;
             armed.homed = false;
             Changed::To(pack(armed))
@@ -57,12 +64,15 @@ pub fn arm(r: Row) -> Changed
 pub fn acknowledge(r: Row) -> Changed
     ensures { λ c. ⌜ c ≡ acknowledgeRow r ⌝ }
 {
-    match classify(r) {
+    let opened = open(r);
+    let status = opened.status;
+    let axis = opened.axis;
+    match status {
         Status::Broken => Changed::Kept(Refusal::Broken),
         Status::Empty => Changed::Kept(Refusal::Empty),
         Status::Counter => Changed::Kept(Refusal::Kind),
         Status::Sampled => {
-            let mut seen = unpack(r);
+            let mut seen = axis;
             seen.index = false;
             seen.doubles = 0;
             Changed::To(pack(seen))

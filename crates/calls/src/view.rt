@@ -1,25 +1,23 @@
 // View: what an axis shows.
 ghost use mathlib.Core.Path.{_≡_};
-ghost use Rattle.axis.specs.Row.{axisOf};
 ghost use Rattle.calls.specs.Answer.{viewOf};
 ghost use Rattle.calls.specs.Calls.{Positioned, viewRow};
 use crate::answer::View;
 use crate::answer::Viewed;
+use axis::row::Axis;
 use axis::row::Row;
-use packing::unpack::unpack;
 use refusal::Refusal;
 use sound::Status;
-use sound::classify;
+use sound::open;
 
-// What a row shows.
-fn shown(r: Row) -> View
-    requires { ⌜ Positioned r ⌝ }
-    ensures { λ v. ⌜ v ≡ viewOf (axisOf r) ⌝ }
+// What an axis shows.
+fn shown(a: Axis) -> View
+    requires { ⌜ Positioned a ⌝ }
+    ensures { λ v. ⌜ v ≡ viewOf a ⌝ }
 {
-    let a = unpack(r);
     View {
         kind: a.kind,
-        position: position::at_word(r.w0),
+        position: position::at_word(a.word),
         primed: a.primed,
         armed: a.armed,
         homed: a.homed,
@@ -33,10 +31,13 @@ fn shown(r: Row) -> View
 pub fn view(r: Row) -> Viewed
     ensures { λ v. ⌜ v ≡ viewRow r ⌝ }
 {
-    match classify(r) {
+    let opened = open(r);
+    let status = opened.status;
+    let axis = opened.axis;
+    match status {
         Status::Broken => Viewed::Refused(Refusal::Broken),
         Status::Empty => Viewed::Refused(Refusal::Empty),
-        Status::Sampled => Viewed::Shows(shown(r)),
-        Status::Counter => Viewed::Shows(shown(r)),
+        Status::Sampled => Viewed::Shows(shown(axis)),
+        Status::Counter => Viewed::Shows(shown(axis)),
     }
 }

@@ -18,10 +18,12 @@ use Rattle.reckon.proofs.ReckonedLaws.{refused-not}
 use Rattle.axis.specs.Row.{axisOf, freshAt}
 use Rattle.axis.specs.declared.row.Axis.{Axis}
 use Rattle.axis.specs.declared.row.Row.{Row}
-use Rattle.sound.specs.Sound.{statusOf, CounterAxis, counterOf}
+use Rattle.sound.specs.Sound.{statusOf, lowRow, CounterAxis, counterOf}
+use Rattle.sound.specs.declared.Opened.{Opened}
 use Rattle.sound.specs.declared.Status.the-variants.{Sampled, Counter}
 use Rattle.sound.proofs.SoundLaws.{counter-gives}
 use Rattle.calls.specs.Change.{changed, Holds}
+use Rattle.calls.specs.Calls.{byStatus}
 use Rattle.calls.specs.Reasons.{Told}
 use Rattle.calls.specs.declared.answer.Changed.the-variants.{To}
 use Rattle.calls.proofs.StatusLaws.{live}
@@ -52,6 +54,12 @@ reading-reasons x r =
 pub reading-is : (x : ℕ) (r : Row) → statusOf r ≡ Counter → readingRow x r ≡ widened (axisOf r .width) (positionOf (axisOf r .word)) x
 unfolding readingRow
 reading-is x r e = rw e
+
+-- What is answered of an opened row is the answer of the row.
+pub opened-reading : (x : ℕ) (r : Row) (o : Opened) → (o .status ≡ statusOf r) × (o .axis ≡ axisOf (lowRow r)) →
+    byStatus Refused (Refused KIND) (readingOf x (o .axis)) (o .status) ≡ readingRow x r
+unfolding readingRow
+opened-reading x r o h = λ i. byStatus Refused (Refused KIND) (readingOf x (h .1 i)) (h .0 i)
 
 -- ---- a reading that is accepted
 

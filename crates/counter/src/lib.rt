@@ -2,17 +2,18 @@
 ghost use mathlib.Core.Path.{_≡_};
 ghost use mathlib.Core.Bool.{true};
 ghost use Rattle.position.specs.Position.{inRange};
-ghost use Rattle.axis.specs.Row.{axisOf, rowOf};
+ghost use Rattle.axis.specs.Row.{rowOf, Narrow};
 ghost use Rattle.counter.specs.Reading.{readAxis, readingOf, readingRow, readRow};
-ghost use Rattle.calls.specs.Calls.{Positioned};
+ghost use Rattle.calls.specs.Calls.{Positioned, byStatus};
+use axis::row::Axis;
 use axis::row::Row;
 use calls::answer::Changed;
 use packing::pack::pack;
-use packing::unpack::unpack;
 use reckon::Reckoned;
 use refusal::Refusal;
+use sound::Opened;
 use sound::Status;
-use sound::classify;
+use sound::open;
 
 // What a reading answers, and what it makes of the named row.
 pub struct Taken {
@@ -20,33 +21,35 @@ pub struct Taken {
     pub row: Changed,
 }
 
-// What a reading says of a counter row.
-fn widened(r: Row, reading: u64) -> Reckoned
-    requires { ⌜ Positioned r ⌝ }
-    ensures { λ n. ⌜ n ≡ readingOf reading (axisOf r) ⌝ }
+// What a reading says of a counter.
+fn widened(a: Axis, reading: u64) -> Reckoned
+    requires { ⌜ Positioned a ⌝ }
+    ensures { λ n. ⌜ n ≡ readingOf reading a ⌝ }
 {
-    let a = unpack(r);
-    reckon::widening::widen(a.width as u64, position::at_word(r.w0), reading)
+    reckon::widening::widen(a.width as u64, position::at_word(a.word), reading)
 }
 
-// What a reading answers.
-fn answer(r: Row, reading: u64) -> Reckoned
-    ensures { λ n. ⌜ n ≡ readingRow reading r ⌝ }
+// What a reading answers on an opened row.
+fn answer(opened: Opened, reading: u64) -> Reckoned
+    requires { ⌜ (opened .status ≡ Status.Counter → Positioned (opened .axis)) ⌝ }
+    ensures { λ n. ⌜ n ≡ byStatus Reckoned.Refused (Reckoned.Refused Refusal.Kind) (readingOf reading (opened .axis)) (opened .status) ⌝ }
 {
-    match classify(r) {
+    let status = opened.status;
+    let axis = opened.axis;
+    match status {
         Status::Broken => Reckoned::Refused(Refusal::Broken),
         Status::Empty => Reckoned::Refused(Refusal::Empty),
         Status::Sampled => Reckoned::Refused(Refusal::Kind),
-        Status::Counter => widened(r, reading),
+        Status::Counter => widened(axis, reading),
     }
 }
 
-// A row with a position stored.
-fn stored(r: Row, position: i64) -> Row
-    requires { ⌜ Positioned r × (inRange position ≡ true) ⌝ }
-    ensures { λ q. ⌜ q ≡ rowOf (readAxis position (axisOf r)) ⌝ }
+// The row of an axis with a position stored.
+fn stored(x: Axis, position: i64) -> Row
+    requires { ⌜ Narrow x × (inRange position ≡ true) ⌝ }
+    ensures { λ q. ⌜ q ≡ rowOf (readAxis position x) ⌝ }
 {
-    let mut a = unpack(r);
+    let mut a = x;
     a.word = position::word_of(position);
     pack(a)
 }
@@ -55,7 +58,9 @@ fn stored(r: Row, position: i64) -> Row
 pub fn read(r: Row, reading: u64) -> Taken
     ensures { λ t. ⌜ (t .answer ≡ readingRow reading r) × (t .row ≡ readRow reading r) ⌝ }
 {
-    let said = answer(r, reading);
+    let opened = open(r);
+    let axis = opened.axis;
+    let said = answer(opened, reading);
     match said {
         Reckoned::Refused(e) => Taken {
             answer: said,
@@ -63,7 +68,7 @@ pub fn read(r: Row, reading: u64) -> Taken
         },
         Reckoned::Number(position) => Taken {
             answer: said,
-            row: Changed::To(stored(r, position)),
+            row: Changed::To(stored(axis, position)),
         },
     }
 }

@@ -1,6 +1,6 @@
 -- Demand 2 for a counter row: its position after any events.
 use mathlib.Core.Path.{_≡_, refl, sym, _∙_, ap}
-use mathlib.Core.Bool.{true, true≢false}
+use mathlib.Core.Bool.{true}
 use mathlib.Core.List.{List, _∷_}
 use Prim.Native.Nat.{ℕ}
 use lib.IntN.{ℤ, pos}
@@ -26,9 +26,10 @@ use Rattle.counter.specs.Reading.{readRow}
 use Rattle.counter.specs.Counter.{newest, shown, rowRead, Gentle, moved}
 use Rattle.keeping.proofs.SaveLaws.{within-parts}
 use Rattle.counter.proofs.CounterLaws.{counter-follows, counter-position}
-use Rattle.history.specs.Event.{Event, setup, erase, preset, arm, acknowledge, view, reading, speed, save, restore, bits, asked, rowAfter, rowNext, rowSince}
-use Rattle.history.specs.Phase.{phaseOf, afterEvent, afterCall}
-use Rattle.history.specs.Counter.{aside, Reads, none, read, between}
+use Rattle.runs.specs.Op.{Look, setup, preset, arm, acknowledge, restore, changes, reading, looks, changeRow, ruleOf, rowAfter}
+use Rattle.runs.specs.Event.{Event, bits, asked, rowNext, rowSince}
+use Rattle.history.specs.Phase.{phaseOf, afterEvent, afterChange, afterCall}
+use Rattle.history.specs.Counter.{Aside, Reads, none, read, between}
 use Rattle.history.proofs.EventLaws.{reading-told, tells}
 use Rattle.history.proofs.RowHistory.{phase-lawful, status-history, counter-history}
 
@@ -36,14 +37,14 @@ use Rattle.history.proofs.RowHistory.{phase-lawful, status-history, cou
 
 -- HEADLINE: a setup that is accepted puts the place to 0.
 pub place-setup : (r : Row) (h : List Event) (kind depth width turn : ℕ) → goodConfig kind depth width turn ≡ true →
-    phaseOf r (asked (setup kind depth width turn) ∷ h) .place ≡ pos 0
-unfolding phaseOf afterEvent afterCall positionOf
+    phaseOf r (asked (changes (setup kind depth width turn)) ∷ h) .place ≡ pos 0
+unfolding phaseOf afterEvent afterCall afterChange positionOf
 place-setup r h kind depth width turn good = rw good
 
 -- HEADLINE: a restore that is accepted puts the place to the position saved.
 pub place-restore : (r : Row) (h : List Event) (bytes : List ℕ) (s : Saved) → readAs bytes ≡ Accepted s →
-    phaseOf r (asked (restore bytes) ∷ h) .place ≡ s .position
-unfolding phaseOf afterEvent afterCall
+    phaseOf r (asked (changes (restore bytes)) ∷ h) .place ≡ s .position
+unfolding phaseOf afterEvent afterCall afterChange
 place-restore r h bytes s e = rw e (position-word (s .position) (within-parts s (accepted-within bytes s e) .1))
 
 module _ {r : Row} (words : Words r) (h : List Event) (counter : statusOf (rowSince r h) ≡ Counter) where
@@ -51,14 +52,14 @@ module _ {r : Row} (words : Words r) (h : List Event) (counter : statusOf (rowSi
   first = sym (status-history words h) ∙ counter
 
   -- HEADLINE: a preset in the range puts the place of a counter there.
-  pub place-preset : (z : ℤ) → inRange z ≡ true → phaseOf r (asked (preset z) ∷ h) .place ≡ z
-  unfolding phaseOf afterEvent afterCall
+  pub place-preset : (z : ℤ) → inRange z ≡ true → phaseOf r (asked (changes (preset z)) ∷ h) .place ≡ z
+  unfolding phaseOf afterEvent afterCall afterChange
   place-preset z ok = rw (ok, first)
 
   -- HEADLINE: a reading that is accepted puts the place of a counter where it says.
   pub place-reading : (x : ℕ) (z : ℤ) → widened (axisOf (rowSince r h) .width) (positionOf (rowSince r h .w0)) x ≡ Number z →
       phaseOf r (asked (reading x) ∷ h) .place ≡ z
-  unfolding phaseOf afterEvent afterCall
+  unfolding phaseOf afterEvent afterCall afterChange
   place-reading x z e = rw (first, sym (reading-told words (tells words h) x first) ∙ e)
 
   -- HEADLINE: the position of a counter is its phase's place.
@@ -70,19 +71,22 @@ module _ {r : Row} (words : Words r) (h : List Event) (counter : statusOf (rowSi
 
 -- ---- a counter on a shaft
 
-aside-stays : (r : Row) → statusOf r ≡ Counter → (e : Event) → aside e ≡ true → rowNext r e ≡ r
-unfolding rowNext rowAfter armRow acknowledgeRow aside
-aside-stays r c (bits n) q = ap (λ (t : SteppedRow). t .row) (counter-stays r n c)
-aside-stays r c (asked (setup kind depth width turn)) q = absurd (true≢false (sym q))
-aside-stays r c (asked erase) q = absurd (true≢false (sym q))
-aside-stays r c (asked (preset z)) q = absurd (true≢false (sym q))
-aside-stays r c (asked arm) q = rw c
-aside-stays r c (asked acknowledge) q = rw c
-aside-stays r c (asked view) q = refl
-aside-stays r c (asked (reading x)) q = absurd (true≢false (sym q))
-aside-stays r c (asked (speed rate)) q = refl
-aside-stays r c (asked (save buffer)) q = refl
-aside-stays r c (asked (restore bytes)) q = absurd (true≢false (sym q))
+-- HEADLINE: a sample, an arm, an acknowledge and a look leave every counter alone.
+pub sample-aside : (n : ℕ) → Aside (bits n)
+unfolding rowNext
+sample-aside n r c = ap (λ (t : SteppedRow). t .row) (counter-stays r n c)
+
+pub arm-aside : Aside (asked (changes arm))
+unfolding rowNext rowAfter ruleOf changeRow armRow
+arm-aside r c = rw c
+
+pub acknowledge-aside : Aside (asked (changes acknowledge))
+unfolding rowNext rowAfter ruleOf changeRow acknowledgeRow
+acknowledge-aside r c = rw c
+
+pub look-aside : (l : Look) → Aside (asked (looks l))
+unfolding rowNext rowAfter ruleOf
+look-aside l r c = refl
 
 module _ (r : Row) (counter : statusOf r ≡ Counter) where
   abbrev width : ℕ
@@ -92,12 +96,12 @@ module _ (r : Row) (counter : statusOf r ≡ Counter) where
   start = positionOf (axisOf r .word)
 
   only-readings : {h : List Event} {ps : List ℤ} → Reads width h ps → Gentle width start ps → rowSince r h ≡ rowRead width r ps
-  unfolding rowSince rowRead rowNext rowAfter
+  unfolding rowSince rowRead rowNext rowAfter ruleOf
   only-readings none g = refl
   only-readings (read p d) (moved q ps ok near g) = ap (λ (s : Row). leftBy s (readRow (shown width p) s)) (only-readings d g)
   only-readings (between e q d) g =
       let same = only-readings d g in
-      aside-stays _ (ap statusOf same ∙ counter-follows r counter g .status) e q ∙ same
+      q _ (ap statusOf same ∙ counter-follows r counter g .status) ∙ same
 
   -- HEADLINE: a counter on a shaft that moves less than half a turn between readings is where the shaft is, whatever else happens to its row between.
   pub counter-shaft : {h : List Event} {ps : List ℤ} → Reads width h ps → Gentle width start ps → positionOf (rowSince r h .w0) ≡ newest start ps

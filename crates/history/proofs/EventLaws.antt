@@ -36,8 +36,9 @@ use Rattle.keeping.proofs.SaveLaws.{within-parts}
 use Rattle.history.specs.Acts.{Act, act, sampled, Accepted as Agreed}
 use Rattle.history.specs.Acts.{preset as placed, arm as armed, acknowledge as acknowledged}
 use Rattle.history.specs.Told.{told}
-use Rattle.history.specs.Event.{Op, Event, setup, erase, preset, arm, acknowledge, view, reading, speed, save, restore, bits, asked, rowAfter, rowNext, rowSince}
-use Rattle.history.specs.Phase.{Phase, begun, acted, moved, bySort, readTo, restoredTo, afterCall, afterEvent, phaseOf, toldBy, toldRow}
+use Rattle.runs.specs.Op.{Change, Op, setup, erase, preset, arm, acknowledge, restore, changes, reading, looks, changeRow, ruleOf, rowAfter}
+use Rattle.runs.specs.Event.{Event, bits, asked, rowNext, rowSince}
+use Rattle.history.specs.Phase.{Phase, begun, acted, moved, bySort, readTo, restoredTo, afterChange, afterCall, afterEvent, phaseOf, toldBy, toldRow}
 use Rattle.history.specs.Lawful.{Beginning, given, erased, made, Lawful}
 use Rattle.history.proofs.ToldLaws.{told-first, act-told}
 use Rattle.history.proofs.StartLaws.{start-sound}
@@ -136,15 +137,15 @@ module _ {r : Row} (words : Words r) where
 
     -- ---- the events
 
-    sets : (kind depth width turn : ℕ) → Tells r (afterCall p (setup kind depth width turn)) (rowAfter now (setup kind depth width turn))
-    unfolding afterCall rowAfter setupRow wordOf inRange
+    sets : (kind depth width turn : ℕ) → Tells r (afterChange p (setup kind depth width turn)) (leftBy now (setupRow kind depth width turn now))
+    unfolding afterChange setupRow wordOf inRange
     sets kind depth width turn =
         by-test (goodConfig kind depth width turn) _ _ _ (λ good. starts (made (configOf kind depth width turn) (pos 0) good refl))
 
-    presets : (z : ℤ) → Tells r (afterCall p (preset z)) (rowAfter now (preset z))
-    unfolding afterCall rowAfter presetRow placeRow act
+    presets : (z : ℤ) → Tells r (afterChange p (preset z)) (leftBy now (presetRow z now))
+    unfolding afterChange presetRow placeRow act
     presets z =
-        subst (λ (q : Phase). Tells r q (rowAfter now (preset z))) (sym (test-sorts (inRange z) (acted p (placed z)) (moved p z) p (statusOf (p .start))))
+        subst (λ (q : Phase). Tells r q (leftBy now (presetRow z now))) (sym (test-sorts (inRange z) (acted p (placed z)) (moved p z) p (statusOf (p .start))))
         (by-sort (λ s. leftBy now (byStatus Kept (placeRow z now) (placeRow z now) s)) _ _ refl refl
         (λ e. by-test (inRange z) _ _ _ (λ ok. acts (placed z) ok e))
         (λ e. by-test (inRange z) _ _ _ (λ ok. rw (counter-preset (counter-gives now (status-now ∙ e)) z) (moves z ok e))))
@@ -155,8 +156,8 @@ module _ {r : Row} (words : Words r) where
     sampled-only a ok =
         by-sort (λ s. leftBy now (byStatus Kept (To (rowOf (act (axisOf now) a))) (Kept KIND) s)) (acted p a) p refl refl (acts a ok) (λ e. t)
 
-    readings : (x : ℕ) → Tells r (afterCall p (reading x)) (rowAfter now (reading x))
-    unfolding afterCall rowAfter readRow readingRow storedRow
+    readings : (x : ℕ) → Tells r (afterCall p (reading x)) (leftBy now (readRow x now))
+    unfolding afterCall readRow readingRow storedRow
     readings x =
         by-sort (λ s. leftBy now (storedRow now (byStatus Unreckoned (Unreckoned KIND) (readingOf x (axisOf now)) s))) p _ refl refl (λ e. t)
         (λ e. rw (reading-told x e) (go e (widened (axisOf (p .start) .width) (p .place) x) refl))
@@ -166,26 +167,28 @@ module _ {r : Row} (words : Words r) where
         go e (Number z) f = moves z (nearest (axisOf (p .start) .width) (p .place) z x f .0) e
         go e (Unreckoned c) f = t
 
-    restores : (bytes : List ℕ) → Tells r (afterCall p (restore bytes)) (rowAfter now (restore bytes))
-    unfolding afterCall rowAfter restoreRow restoredBy
+    restores : (bytes : List ℕ) → Tells r (afterChange p (restore bytes)) (leftBy now (restoreRow bytes now))
+    unfolding afterChange restoreRow restoredBy
     restores bytes = go (readAs bytes) refl
       where
         go : (a : Read) → readAs bytes ≡ a → Tells r (restoredTo p a) (leftBy now (restoredBy a))
         go (Accepted s) e = let w = within-parts s (accepted-within bytes s e) in starts (made (s .config) (s .position) (w .0) (w .1))
         go (Unread f) e = t
 
+    changed-by : (c : Change) → Tells r (afterChange p c) (leftBy now (changeRow c now))
+    unfolding afterChange changeRow eraseRow armRow acknowledgeRow act
+    changed-by (setup kind depth width turn) = sets kind depth width turn
+    changed-by erase = starts erased
+    changed-by (preset z) = presets z
+    changed-by arm = sampled-only armed tt
+    changed-by acknowledge = sampled-only acknowledged tt
+    changed-by (restore bytes) = restores bytes
+
     calls : (o : Op) → Tells r (afterCall p o) (rowAfter now o)
-    unfolding afterCall rowAfter eraseRow armRow acknowledgeRow act
-    calls (setup kind depth width turn) = sets kind depth width turn
-    calls erase = starts erased
-    calls (preset z) = presets z
-    calls arm = sampled-only armed tt
-    calls acknowledge = sampled-only acknowledged tt
-    calls view = t
+    unfolding afterCall rowAfter ruleOf
+    calls (changes c) = changed-by c
     calls (reading x) = readings x
-    calls (speed rate) = t
-    calls (save buffer) = t
-    calls (restore bytes) = restores bytes
+    calls (looks l) = t
 
     events : (e : Event) → Tells r (afterEvent p e) (rowNext now e)
     unfolding afterEvent rowNext stepRow stepBy act

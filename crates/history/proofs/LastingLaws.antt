@@ -19,11 +19,12 @@ use Rattle.sample.proofs.RowLaws.{broken-stays}
 use Rattle.record.specs.Record.{readAs}
 use Rattle.record.specs.declared.answer.Read.{Read}
 use Rattle.record.specs.declared.answer.Read.the-variants.{Accepted, Refused as Unread}
-use Rattle.calls.specs.Calls.{leftBy}
-use Rattle.counter.specs.Reading.{storedRow, readRow}
-use Rattle.history.specs.Event.{Op, Event, setup, erase, preset, arm, acknowledge, view, reading, speed, save, restore, bits, asked, rowAfter, Refused, rowNext, rowSince}
-use Rattle.history.specs.Phase.{Phase, moved, bySort, readTo, restoredTo, afterCall, afterEvent, phaseOf, toldBy, toldRow, marksOf}
-use Rattle.history.specs.Lasting.{isRead, begins, Lasting}
+use Rattle.runs.specs.Told.{marksOf}
+use Rattle.runs.specs.Op.{Change, Op, setup, erase, preset, arm, acknowledge, restore, changes, reading, looks, Refused}
+use Rattle.runs.specs.Event.{Event, bits, asked, rowNext, rowSince}
+use Rattle.runs.proofs.CallLaws.{refused-after}
+use Rattle.history.specs.Phase.{Phase, moved, bySort, readTo, restoredTo, afterChange, afterCall, afterEvent, phaseOf, toldBy, toldRow}
+use Rattle.history.specs.Lasting.{isRead, renews, begins, Lasting}
 use Rattle.history.proofs.PhaseLaws.{told-configured}
 use Rattle.history.proofs.RowHistory.{phase-lawful, row-history, status-history}
 
@@ -31,17 +32,8 @@ use Rattle.history.proofs.RowHistory.{phase-lawful, row-history, status
 
 -- HEADLINE: a call that is refused changes nothing.
 pub refused-stays : (r : Row) (o : Op) (e : Refusal) → Refused r o e → rowNext r (asked o) ≡ r
-unfolding rowNext rowAfter readRow storedRow
-refused-stays r (setup kind depth width turn) e q = ap (leftBy r) q
-refused-stays r erase e q = ap (leftBy r) q
-refused-stays r (preset z) e q = ap (leftBy r) q
-refused-stays r arm e q = ap (leftBy r) q
-refused-stays r acknowledge e q = ap (leftBy r) q
-refused-stays r view e q = refl
-refused-stays r (reading x) e q = ap (λ (a : Reckoned). leftBy r (storedRow r a)) q
-refused-stays r (speed rate) e q = refl
-refused-stays r (save buffer) e q = refl
-refused-stays r (restore bytes) e q = ap (leftBy r) q
+unfolding rowNext
+refused-stays r o e q = refused-after r o e q
 
 -- HEADLINE: a sample changes no empty row, no counter and no broken row.
 pub sample-stays : (r : Row) (n : ℕ) → (statusOf r ≡ Sampled → ⊥) → rowNext r (bits n) ≡ r
@@ -75,21 +67,24 @@ module _ (p : Phase) where
   restored-start (Accepted s) q = absurd (true≢false q)
   restored-start (Unread e) q = refl
 
-  -- An event that begins no phase leaves the phase's start.
+  -- A change that begins no phase leaves the phase's start.
+  start-change : (c : Change) → renews c ≡ false → afterChange p c .start ≡ p .start
+  unfolding afterChange renews
+  start-change (setup kind depth width turn) q = rw q
+  start-change erase q = absurd (true≢false q)
+  start-change (preset z) q = test-start (inRange z) _ (sort-start _ (moved p z) refl refl (statusOf (p .start)))
+  start-change arm q = sort-start _ p refl refl (statusOf (p .start))
+  start-change acknowledge q = sort-start _ p refl refl (statusOf (p .start))
+  start-change (restore bytes) q = restored-start (readAs bytes) q
+
+  -- So does an event.
   start-next : (e : Event) → begins e ≡ false → afterEvent p e .start ≡ p .start
   unfolding afterEvent afterCall begins
   start-next (bits n) q = sort-start _ p refl refl (statusOf (p .start))
-  start-next (asked (setup kind depth width turn)) q = rw q
-  start-next (asked erase) q = absurd (true≢false q)
-  start-next (asked (preset z)) q = test-start (inRange z) _ (sort-start _ (moved p z) refl refl (statusOf (p .start)))
-  start-next (asked arm) q = sort-start _ p refl refl (statusOf (p .start))
-  start-next (asked acknowledge) q = sort-start _ p refl refl (statusOf (p .start))
-  start-next (asked view) q = refl
+  start-next (asked (changes c)) q = start-change c q
   start-next (asked (reading x)) q =
       sort-start p _ refl (read-start (widened (axisOf (p .start) .width) (p .place) x)) (statusOf (p .start))
-  start-next (asked (speed rate)) q = refl
-  start-next (asked (save buffer)) q = refl
-  start-next (asked (restore bytes)) q = restored-start (readAs bytes) q
+  start-next (asked (looks l)) q = refl
 
 -- HEADLINE: newer events that begin no phase leave the start of the phase that they found.
 pub start-since : (r : Row) (new old : List Event) → Lasting new → phaseOf r (new ++ old) .start ≡ phaseOf r old .start

@@ -13,9 +13,11 @@ use Rattle.sample.specs.Step.{stepAxis, packed, stepBy, stepRow}
 use Rattle.sample.specs.declared.step.Stepped.{Stepped}
 use Rattle.calls.specs.Change.{Holds}
 use Rattle.counter.specs.Reading.{readAxis}
-use Rattle.history.specs.Event.{Event, rowNext, rowSince}
+use Rattle.runs.specs.Told.{Marks, marks, marksOf}
+use Rattle.runs.specs.Op.{answerOf}
+use Rattle.runs.specs.Event.{Event, bits, asked, rowNext, rowSince, toldOf}
 use Rattle.history.specs.Told.{told, answered}
-use Rattle.history.specs.Phase.{phaseOf, toldRow, marksOf, markedBy, toldMarks}
+use Rattle.history.specs.Phase.{phaseOf, toldRow, markedBy, toldMarks, toldAt}
 use Rattle.history.specs.Lawful.{Lawful}
 use Rattle.history.proofs.ToldLaws.{sample-told}
 use Rattle.history.proofs.StartLaws.{start-sound}
@@ -70,3 +72,9 @@ module _ {r : Row} (words : Words r) (h : List Event) where
           ∙ ap (λ (o : Stepped). marksOf (packed o)) (sample-told (axisOf (p .start)) (start-sound (p .start) e) (rawOf n) (p .acts) (phase-lawful .legal))
       go Counter e = refl
       go Broken e = refl
+
+  -- HEADLINE: all that a row is told by an event, its bits of a sample or the answer of a call, is what the phase tells of it.
+  pub told-history : (e : Event) → toldOf (rowSince r h) e ≡ toldAt (phaseOf r h) e
+  unfolding toldOf toldAt
+  told-history (bits n) = ap (λ (m : Marks). marks m) (marks-history n)
+  told-history (asked o) = ap (answerOf o) row-history

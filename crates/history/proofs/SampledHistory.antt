@@ -17,8 +17,9 @@ use Rattle.history.specs.Start.{Start}
 use Rattle.history.specs.Levels.{levelAt, roseAt}
 use Rattle.history.specs.Entries.{numberOfE, doubleAt}
 use Rattle.history.specs.Tally.{sum, placeTally, doublesTally}
-use Rattle.history.specs.Event.{Event, rowSince}
-use Rattle.history.specs.Phase.{Marks, phaseOf, startAxis, actsSince, markedBy, toldMarks}
+use Rattle.runs.specs.Told.{Marks}
+use Rattle.runs.specs.Event.{Event, rowSince}
+use Rattle.history.specs.Phase.{phaseOf, startAxis, actsSince, markedBy, toldMarks}
 use Rattle.history.proofs.ToldLaws.{whole-history}
 use Rattle.history.proofs.HistoryLaws.{level-history, position-history, doubles-history}
 use Rattle.history.proofs.StartLaws.{start-sound}

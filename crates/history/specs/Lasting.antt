@@ -6,26 +6,29 @@ use Rattle.axis.specs.Config.{goodConfig}
 use Rattle.record.specs.Record.{readAs}
 use Rattle.record.specs.declared.answer.Read.{Read}
 use Rattle.record.specs.declared.answer.Read.the-variants.{Accepted, Refused as Unread}
-use Rattle.history.specs.Event.{Event, setup, erase, preset, arm, acknowledge, view, reading, speed, save, restore, bits, asked}
+use Rattle.runs.specs.Op.{Change, setup, erase, preset, arm, acknowledge, restore, changes, reading, looks}
+use Rattle.runs.specs.Event.{Event, bits, asked}
 
 -- Whether a record is accepted.
 abbrev pub isRead : Read → Bool
 isRead (Accepted s) = true
 isRead (Unread e) = false
 
--- Whether an event begins a phase: an erase, and a setup or a restore that is accepted.
+-- Whether a change begins a phase: an erase, and a setup or a restore that is accepted.
+unfoldable pub renews : Change → Bool
+renews (setup kind depth width turn) = goodConfig kind depth width turn
+renews erase = true
+renews (preset z) = false
+renews arm = false
+renews acknowledge = false
+renews (restore bytes) = isRead (readAs bytes)
+
+-- Whether an event does.
 unfoldable pub begins : Event → Bool
 begins (bits n) = false
-begins (asked (setup kind depth width turn)) = goodConfig kind depth width turn
-begins (asked erase) = true
-begins (asked (preset z)) = false
-begins (asked arm) = false
-begins (asked acknowledge) = false
-begins (asked view) = false
+begins (asked (changes c)) = renews c
 begins (asked (reading x)) = false
-begins (asked (speed rate)) = false
-begins (asked (save buffer)) = false
-begins (asked (restore bytes)) = isRead (readAs bytes)
+begins (asked (looks l)) = false
 
 -- None of some events begins a phase.
 abbrev pub Lasting : List Event → Type 0

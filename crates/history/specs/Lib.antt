@@ -9,7 +9,6 @@ pub mod Pace
 pub mod Index
 pub mod Told
 pub mod Shaft
-pub mod Event
 pub mod Phase
 pub mod Lasting
 pub mod Lawful

@@ -1,7 +1,7 @@
 -- What the events of one axis tell, from any four words: document 01, "One row, four words", "A port sample" and "Calls that name one axis". A
 -- phase begins with every setup, erase and restore that is accepted, and within a phase the configuration stays. Events have the newest first.
 use Prim.Native.Nat.{ℕ}
-use mathlib.Core.Bool.{Bool, true, false, cond}
+use mathlib.Core.Bool.{true, false, cond}
 use mathlib.Core.List.{List, [], _∷_}
 use lib.IntN.{ℤ}
 use Rattle.position.specs.Position.{inRange, wordOf, positionOf}
@@ -16,18 +16,19 @@ use Rattle.axis.specs.declared.row.Row.{Row}
 use Rattle.sound.specs.declared.Status.{Status}
 use Rattle.sound.specs.declared.Status.the-variants.{Empty, Sampled, Counter, Broken}
 use Rattle.lines.specs.Lines.{rawOf}
-use Rattle.sample.specs.declared.step.SteppedRow.{SteppedRow}
 use Rattle.record.specs.Record.{readAs}
 use Rattle.record.specs.declared.answer.Read.{Read}
 use Rattle.record.specs.declared.answer.Read.the-variants.{Accepted, Refused as Unread}
 use Rattle.counter.specs.Reading.{readAxis}
 use Rattle.calls.specs.Calls.{configOf}
+use Rattle.runs.specs.Told.{Marks, Told, marks}
+use Rattle.runs.specs.Op.{Change, Op, setup, erase, preset, arm, acknowledge, restore, changes, reading, looks, answerOf}
+use Rattle.runs.specs.Event.{Event, bits, asked}
 use Rattle.history.specs.Acts.{Act, sampled}
 use Rattle.history.specs.Acts.{preset as placed, arm as armed, acknowledge as acknowledged}
 use Rattle.history.specs.Entries.{doubleAt}
 use Rattle.history.specs.Levels.{roseAt}
 use Rattle.history.specs.Told.{told}
-use Rattle.history.specs.Event.{Op, Event, setup, erase, preset, arm, acknowledge, view, reading, speed, save, restore, bits, asked}
 
 -- A phase: the row that it began with, what has happened to a sampled axis since, newest first, and where a counter is.
 pub record Phase : Type 0 where
@@ -64,19 +65,21 @@ abbrev pub restoredTo : Phase → Read → Phase
 restoredTo p (Accepted s) = begun (rowOf (freshAt (s .config) (wordOf (s .position))))
 restoredTo p (Unread e) = p
 
--- The phase after a call; one that is refused, or only looks, changes nothing.
-unfoldable pub afterCall : Phase → Op → Phase
-afterCall p (setup kind depth width turn) =
+-- The phase after a change; one that is refused changes nothing.
+unfoldable pub afterChange : Phase → Change → Phase
+afterChange p (setup kind depth width turn) =
     cond (goodConfig kind depth width turn) (begun (rowOf (fresh (configOf kind depth width turn)))) p
-afterCall p erase = begun emptyRow
-afterCall p (preset z) = cond (inRange z) (bySort (acted p (placed z)) (moved p z) (statusOf (p .start)) p) p
-afterCall p arm = bySort (acted p armed) p (statusOf (p .start)) p
-afterCall p acknowledge = bySort (acted p acknowledged) p (statusOf (p .start)) p
-afterCall p view = p
+afterChange p erase = begun emptyRow
+afterChange p (preset z) = cond (inRange z) (bySort (acted p (placed z)) (moved p z) (statusOf (p .start)) p) p
+afterChange p arm = bySort (acted p armed) p (statusOf (p .start)) p
+afterChange p acknowledge = bySort (acted p acknowledged) p (statusOf (p .start)) p
+afterChange p (restore bytes) = restoredTo p (readAs bytes)
+
+-- The phase after a call; one that only looks changes nothing.
+unfoldable pub afterCall : Phase → Op → Phase
+afterCall p (changes c) = afterChange p c
 afterCall p (reading x) = bySort p (readTo p (widened (axisOf (p .start) .width) (p .place) x)) (statusOf (p .start)) p
-afterCall p (speed rate) = p
-afterCall p (save buffer) = p
-afterCall p (restore bytes) = restoredTo p (readAs bytes)
+afterCall p (looks l) = p
 
 -- The phase after an event.
 unfoldable pub afterEvent : Phase → Event → Phase
@@ -107,16 +110,6 @@ toldBy Broken p = p .start
 unfoldable pub toldRow : Phase → Row
 toldRow p = toldBy (statusOf (p .start)) p
 
--- The bits of the answer: double step, index rise, broken row.
-pub record Marks : Type 0 where
-  pub double : Bool
-  pub index : Bool
-  pub broken : Bool
-
--- The bits of the answer of a sample on a row.
-abbrev pub marksOf : SteppedRow → Marks
-marksOf s = record { double = s .double; index = s .index; broken = s .broken }
-
 -- The bits that a phase tells of a sample: E and the index rise of a sampled axis, broken for a broken row, none for any other.
 unfoldable pub markedBy : Status → Phase → ℕ → Marks
 markedBy Sampled p n = record {
@@ -131,3 +124,8 @@ markedBy Broken p n = record { double = false; index = false; broken = true }
 -- The bits that a phase tells of a sample.
 unfoldable pub toldMarks : Phase → ℕ → Marks
 toldMarks p n = markedBy (statusOf (p .start)) p n
+
+-- What a phase tells of an event: the bits of a sample, the answer of a call.
+unfoldable pub toldAt : Phase → Event → Told
+toldAt p (bits n) = marks (toldMarks p n)
+toldAt p (asked o) = answerOf o (toldRow p)

@@ -1,7 +1,6 @@
 // Save and restore.
 ghost use mathlib.Core.Path.{_≡_};
 ghost use lib.ListN.{length};
-ghost use Rattle.axis.specs.Row.{axisOf};
 ghost use Rattle.calls.specs.Calls.{Positioned};
 ghost use Rattle.keeping.specs.Saving.{savedOf, saveRow, savedIn, restoreRow};
 use axis::config::Config;
@@ -9,20 +8,18 @@ use axis::row::Axis;
 use axis::row::Row;
 use calls::answer::Changed;
 use packing::pack::pack;
-use packing::unpack::unpack;
 use record::answer::Read;
 use record::answer::Saved;
 use record::answer::Written;
 use refusal::Refusal;
 use sound::Status;
-use sound::classify;
+use sound::open;
 
-// What is saved of a row.
-fn kept(r: Row) -> Saved
-    requires { ⌜ Positioned r ⌝ }
-    ensures { λ s. ⌜ s ≡ savedOf (axisOf r) ⌝ }
+// What is saved of an axis.
+fn kept(a: Axis) -> Saved
+    requires { ⌜ Positioned a ⌝ }
+    ensures { λ s. ⌜ s ≡ savedOf a ⌝ }
 {
-    let a = unpack(r);
     Saved {
         config: Config {
             kind: a.kind,
@@ -30,7 +27,7 @@ fn kept(r: Row) -> Saved
             width: a.width,
             turn: a.turn,
         },
-        position: position::at_word(r.w0),
+        position: position::at_word(a.word),
     }
 }
 
@@ -38,11 +35,14 @@ fn kept(r: Row) -> Saved
 pub fn save(r: Row, buf: &mut [u8]) -> Written
     ensures { λ w. ⌜ (w ≡ saveRow (length (now (buf .entry))) r) × (now (buf .exit) ≡ savedIn (now (buf .entry)) r) ⌝ }
 {
-    match classify(r) {
+    let opened = open(r);
+    let status = opened.status;
+    let axis = opened.axis;
+    match status {
         Status::Broken => Written::Refused(Refusal::Broken),
         Status::Empty => Written::Refused(Refusal::Empty),
-        Status::Sampled => writer::save(buf, kept(r)),
-        Status::Counter => writer::save(buf, kept(r)),
+        Status::Sampled => writer::save(buf, kept(axis)),
+        Status::Counter => writer::save(buf, kept(axis)),
     }
 }
 

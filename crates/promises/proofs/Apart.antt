@@ -4,7 +4,8 @@ use mathlib.Core.List.{List}
 use Prim.Native.Nat.{ℕ, _<_}
 use lib.ListN.{length}
 use Rattle.rows.specs.Table.{axesIn, rowAt}
-use Rattle.promises.specs.Runs.{Call, tableRun, heard, rows, events}
+use Rattle.runs.specs.Run.{Call, tableRun, heard, rows}
+use Rattle.promises.specs.Own.{events}
 use Rattle.promises.proofs.RunLaws.{alone}
 
 -- What two runs agree on for axis k.

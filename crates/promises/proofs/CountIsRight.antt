@@ -10,7 +10,8 @@ use Rattle.axis.specs.Row.{axisOf}
 use Rattle.sound.specs.Sound.{statusOf}
 use Rattle.axis.specs.declared.row.Row.{Row}
 use Rattle.sound.specs.declared.Status.the-variants.{Sampled, Counter}
-use Rattle.history.specs.Event.{Event, rowSince}
+use Rattle.runs.specs.Event.{Event, rowSince}
+use Rattle.runs.specs.Run.{Call, tableRun}
 use Rattle.history.specs.Phase.{phaseOf, toldRow, startAxis, actsSince}
 use Rattle.history.specs.Entries.{numberOfE}
 use Rattle.history.specs.Tally.{Tally, Place, placeTally, doublesTally, sum}
@@ -19,7 +20,7 @@ use Rattle.history.proofs.SampledHistory.{position-row, doubles-row}
 use Rattle.history.proofs.CounterHistory.{position-counter}
 use Rattle.rows.specs.Table.{axesIn, rowAt, AllWords}
 use Rattle.rows.proofs.TableLaws.{row-words}
-use Rattle.promises.specs.Runs.{Call, tableRun, events, rowRun}
+use Rattle.promises.specs.Own.{events, rowRun}
 use Rattle.promises.proofs.RunLaws.{alone}
 
 -- Events oldest first, and the same newest first, make one row.

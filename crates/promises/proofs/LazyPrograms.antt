@@ -18,7 +18,7 @@ use Rattle.rows.specs.Table.{axesIn, rowAt}
 use Rattle.port.specs.Port.{nibble, sampledTable, sampledAnswer}
 use Rattle.port.specs.declared.Sampled.the-variants.{Refused}
 use Rattle.port.proofs.PortLaws.{sample-row, sample-refused}
-use Rattle.promises.specs.Runs.{Call, port, tableNext, tableRun}
+use Rattle.runs.specs.Run.{Call, port, tableNext, tableRun}
 
 -- Refusing everything: a table of a legal length is sampled, never refused.
 pub not-everything-refused : (t : List ℕ) (word : ℕ) (e : Refusal) → axesIn (length t) ≢ 0 → sampledAnswer t word ≡ Refused e → ⊥

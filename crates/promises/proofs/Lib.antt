@@ -4,5 +4,6 @@ pub mod SaveBytes
 pub mod RunLaws
 pub mod Apart
 pub mod CountIsRight
+pub mod ToldAlone
 pub mod Restoring
 pub mod LazyPrograms

@@ -16,7 +16,7 @@ use Rattle.calls.specs.declared.answer.Changed.the-variants.{To}
 use Rattle.keeping.proofs.SaveLaws.{restore-is, restored-save, saved-restore}
 use Rattle.rows.specs.Table.{axesIn, rowAt}
 use Rattle.table.specs.Call.{ruled, tableAfter}
-use Rattle.promises.proofs.RunLaws.{ruled-is, by-rule}
+use Rattle.runs.proofs.CallLaws.{ruled-is, by-rule}
 
 module _ (t : List ℕ) (k : ℕ) (h : k < axesIn (length t)) where
   -- HEADLINE: a restore that is accepted makes of the named row, whatever it held, broken too, what a setup with the record's configuration and then a

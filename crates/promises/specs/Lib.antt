@@ -1,2 +1,2 @@
 pub mod Readings
-pub mod Runs
+pub mod Own

@@ -2,16 +2,16 @@
 use Prim.Native.Nat.{ℕ}
 use native.Mathlib.Omega.{arith}
 use mathlib.Core.Path.{_≡_, refl, sym, ap, _∙_}
-use mathlib.Core.Bool.{true, false}
+use mathlib.Core.Bool.{true, false, true≢false}
 use lib.Dec.{eqb}
 use Rattle.fields.specs.Field.{fieldOf}
 use Rattle.axis.specs.declared.row.Row.{Row}
 use Rattle.sound.specs.declared.Status.{Status}
 use Rattle.sound.specs.declared.Status.the-variants.{Empty, Sampled, Counter, Broken}
 use Rattle.axis.specs.Row.{axisOf, Words}
-use Rattle.sound.specs.Sound.{statusOf, SampledAxis}
+use Rattle.sound.specs.Sound.{isSampled, statusOf, brokenBy, passes, SampledAxis}
 use Rattle.axis.proofs.RowLaws.{comes-back, held-words}
-use Rattle.sound.proofs.SoundLaws.{sampled-gives, sampled-from, sampled-held}
+use Rattle.sound.proofs.SoundLaws.{status-exactly, sampled-gives, sampled-from, sampled-held}
 use Rattle.lines.specs.Lines.{rawOf}
 use Rattle.sample.specs.Step.{stepAxis, packed, kept, stepBy, stepRow}
 use Rattle.lines.specs.declared.Raw.{Raw}
@@ -75,6 +75,17 @@ module _ (r : Row) (nibble : ℕ) where
           rw (row-steps e) (held-words (stepAxis (axisOf r) (rawOf nibble) .axis) (sampled-held g) (omega (arith, g .below)) (omega (arith, g .turn)))
       go Counter e = rw (counter-stays e) h
       go Broken e = rw (broken-stays e) h
+
+  -- A row that is not sampled stays, and is marked where it is broken.
+  pub other-stays : isSampled r ≡ false → stepRow r nibble ≡ kept r (brokenBy (statusOf r))
+  unfolding passes
+  other-stays h = go (statusOf r) refl
+    where
+      go : (s : Status) → statusOf r ≡ s → stepRow r nibble ≡ kept r (brokenBy (statusOf r))
+      go Empty e = rw e (empty-stays e)
+      go Sampled e = absurd (true≢false (sym (status-exactly Sampled r .0 e) ∙ h))
+      go Counter e = rw e (counter-stays e)
+      go Broken e = rw e (broken-stays e)
 
 -- ---- the fourth bit
 

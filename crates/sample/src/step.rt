@@ -1,8 +1,7 @@
 // A sample on an axis, and on a row.
 ghost use mathlib.Core.Path.{_≡_};
 ghost use mathlib.Core.Bool.{true, false};
-ghost use Rattle.axis.specs.Row.{axisOf};
-ghost use Rattle.sound.specs.Sound.{statusOf};
+ghost use Rattle.sound.specs.Sound.{SampledAxis};
 ghost use Rattle.lines.specs.Lines.{three, rawOf};
 ghost use Rattle.lines.specs.Filter.{Short};
 ghost use Rattle.decode.specs.Decode.{moveTo};
@@ -25,9 +24,9 @@ use motion::index::z_rises;
 use motion::pace::Pace;
 use motion::pace::paced;
 use packing::pack::pack;
-use packing::unpack::unpack;
-use sound::Status;
-use sound::classify;
+use sound::axis_in;
+use sound::is_broken;
+use sound::is_sampled;
 
 // The axis after a sample, and its bits of the answer.
 pub struct Stepped {
@@ -120,12 +119,12 @@ pub fn step_axis(x: Axis, s: Raw) -> Stepped
     prime(x, s)
 }
 
-// A sampled row after a sample: unpacked, stepped and packed.
-fn step_sampled(r: Row, nibble: u64) -> SteppedRow
-    requires { ⌜ statusOf r ≡ Status.Sampled ⌝ }
-    ensures { λ t. ⌜ t ≡ packed (stepAxis (axisOf r) (rawOf nibble)) ⌝ }
+// A sampled axis after a sample, packed.
+fn step_sampled(x: Axis, nibble: u64) -> SteppedRow
+    requires { ⌜ SampledAxis x ⌝ }
+    ensures { λ t. ⌜ t ≡ packed (stepAxis x (rawOf nibble)) ⌝ }
 {
-    let stepped = step_axis(unpack(r), raw_of(nibble));
+    let stepped = step_axis(x, raw_of(nibble));
     let axis = stepped.axis;
     SteppedRow {
         row: pack(axis),
@@ -151,10 +150,9 @@ fn keep(r: Row, broken: bool) -> SteppedRow
 pub fn step_row(r: Row, nibble: u64) -> SteppedRow
     ensures { λ t. ⌜ t ≡ stepRow r nibble ⌝ }
 {
-    match classify(r) {
-        Status::Sampled => step_sampled(r, nibble),
-        Status::Empty => keep(r, false),
-        Status::Counter => keep(r, false),
-        Status::Broken => keep(r, true),
+    let axis = axis_in(r);
+    if is_sampled(r, axis) {
+        return step_sampled(axis, nibble);
     }
+    keep(r, is_broken(r))
 }

@@ -1,19 +1,21 @@
 -- What each test of a row or of an axis says of its numbers, and what passes it.
-use Prim.Native.Nat.{_-_, _^_, _<_, _≤_}
+use Prim.Native.Nat.{ℕ, _+_, _-_, _/_, _^_, _<_, _≤_}
 use native.Mathlib.Omega.{arith}
-use mathlib.Core.Path.{_≡_}
-use mathlib.Core.Bool.{true, false, not, _&&_, _||_}
+use mathlib.Core.Path.{_≡_, refl, sym, ap, _∙_}
+use mathlib.Core.Bool.{Bool, true, false, not, _&&_, _||_, true≢false, and-true, and-false}
+use lib.Pow.{mod-pow-add, shr-shr}
 use lib.Dec.{eqb, leb, ltb}
 use lib.ListN.{getD}
 use borrow.Author.Tests.{eqb-true, eqb-false, leb-true, ltb-true, not-true, not-false, eq-eqb, ne-eqb, le-leb, lt-ltb}
-use Rattle.fields.specs.Field.{fieldOf}
+use Rattle.fields.specs.Field.{fieldOf, flagOf}
+use Rattle.fields.proofs.BitLaws.{field-below, part-zero}
 use Rattle.axis.specs.declared.row.Axis.{Axis}
 use Rattle.axis.specs.declared.row.Row.{Row}
 use Rattle.axis.specs.Config.{sampledConfig}
-use Rattle.axis.specs.Row.{Held}
-use Rattle.axis.proofs.TestLaws.{both, otherwise, either}
+use Rattle.axis.specs.Row.{axisOf, Held}
+use Rattle.axis.proofs.TestLaws.{both, otherwise, either, refuted}
 use Rattle.axis.proofs.ConfigLaws.{sampled-setting}
-use Rattle.sound.specs.Sound.{isPlain, isFresh, isPaced, isConsistent, Fresh, SampledAxis}
+use Rattle.sound.specs.Sound.{isPlain, isFresh, isShort, isPaced, isConsistent, isSampled, lowRow, Fresh, SampledAxis}
 
 -- What the plain test says of a row.
 pub record Plain (r : Row) : Type 0 where
@@ -48,6 +50,12 @@ plain-from r p =
       eq-eqb (fieldOf 50 14 (r .w1)) 0 (p .high),
       lt-ltb (r .w3) (2 ^ 32) (p .turn),
     )
+
+-- A row whose word 3 is below 2 ^ 32 has no more of it than the low 32 bits.
+pub low-same : (r : Row) → r .w3 < 2 ^ 32 → lowRow r ≡ r
+low-same r h =
+    let e : fieldOf 0 32 (r .w3) ≡ r .w3 = omega arith in
+    λ i. record { w0 = r .w0; w1 = r .w1; w2 = r .w2; w3 = e i }
 
 -- An axis that passes the fresh test is fresh.
 pub fresh-gives : (a : Axis) → isFresh a ≡ true → Fresh a
@@ -98,6 +106,107 @@ fresh-from f =
       f .age,
       f .period,
     )
+
+-- A field is 0 whose lower part and whose upper part are 0.
+whole-zero : (at k m w : ℕ) → fieldOf at k w ≡ 0 → fieldOf (at + k) m w ≡ 0 → fieldOf at (m + k) w ≡ 0
+whole-zero at k m w low high = rw (mod-pow-add (w / 2 ^ at) m k, shr-shr w at k, high, low) (omega arith)
+
+-- A flag that is clear is a bit that is 0.
+clear-zero : (at w : ℕ) → flagOf at w ≡ false → fieldOf at 1 w ≡ 0
+clear-zero at w e =
+    let b = field-below at 1 w in
+    let n : fieldOf at 1 w ≡ 1 → ⊥ = eqb-false (fieldOf at 1 w) 1 e in
+    omega (arith, b)
+
+-- In a plain row, a fresh axis is 0 in bits 16 to 63 of word 1.
+fresh-bare : (r : Row) → Plain r → Fresh (axisOf r) → fieldOf 16 48 (r .w1) ≡ 0
+fresh-bare r p f =
+    let w = r .w1 in
+    let z48 = whole-zero 48 2 14 w (f .direction) (p .high) in
+    let z32 = whole-zero 32 16 16 w (f .doubles) z48 in
+    let z31 = whole-zero 31 1 32 w (p .low) z32 in
+    let z28 = whole-zero 28 3 33 w (f .runZ) z31 in
+    let z25 = whole-zero 25 3 36 w (f .runB) z28 in
+    let z22 = whole-zero 22 3 39 w (f .runA) z25 in
+    let z21 = whole-zero 21 1 42 w (clear-zero 21 w (f .levelZ)) z22 in
+    let z20 = whole-zero 20 1 43 w (clear-zero 20 w (f .levelB)) z21 in
+    let z19 = whole-zero 19 1 44 w (clear-zero 19 w (f .levelA)) z20 in
+    let z18 = whole-zero 18 1 45 w (clear-zero 18 w (f .index)) z19 in
+    let z17 = whole-zero 17 1 46 w (clear-zero 17 w (f .range)) z18 in
+    whole-zero 16 1 47 w (clear-zero 16 w (f .homed)) z17
+
+-- An axis is fresh that has 0 there, and in age and period.
+bare-fresh : (r : Row) → fieldOf 16 48 (r .w1) ≡ 0 → axisOf r .age ≡ 0 → axisOf r .period ≡ 0 → Fresh (axisOf r)
+bare-fresh r z age period =
+    let zero : (above k d : ℕ) → fieldOf 16 (above + k + d) (r .w1) ≡ 0 → fieldOf (16 + d) k (r .w1) ≡ 0 = λ above k d. part-zero 16 above k d (r .w1) in
+    let clear : (above d : ℕ) → fieldOf 16 (above + 1 + d) (r .w1) ≡ 0 → flagOf (16 + d) (r .w1) ≡ false = λ above d h. ap (λ (x : ℕ). eqb x 1) (zero above 1 d h) in
+    record {
+      homed = clear 47 0 z;
+      range = clear 46 1 z;
+      index = clear 45 2 z;
+      levelA = clear 44 3 z;
+      levelB = clear 43 4 z;
+      levelZ = clear 42 5 z;
+      runA = zero 39 3 6 z;
+      runB = zero 36 3 9 z;
+      runZ = zero 33 3 12 z;
+      doubles = zero 16 16 16 z;
+      direction = zero 14 2 32 z;
+      age = age;
+      period = period;
+    }
+
+-- The test of those bits, of age and of period is the fresh test of a plain row's axis.
+abbrev isBare : ℕ → Axis → Bool
+isBare w1 a = eqb (fieldOf 16 48 w1) 0 && eqb (a .age) 0 && eqb (a .period) 0
+
+bare-test : (r : Row) → Plain r → isBare (r .w1) (axisOf r) ≡ isFresh (axisOf r)
+bare-test r p = go (isFresh (axisOf r)) refl
+  where
+    go : (b : Bool) → isFresh (axisOf r) ≡ b → isBare (r .w1) (axisOf r) ≡ b
+    go true e =
+        let f = fresh-gives (axisOf r) e in
+        rw (eq-eqb (fieldOf 16 48 (r .w1)) 0 (fresh-bare r p f), eq-eqb (axisOf r .age) 0 (f .age), eq-eqb (axisOf r .period) 0 (f .period))
+    go false e =
+        refuted (isBare (r .w1) (axisOf r)) (λ b.
+        let h2 = both _ (eqb (axisOf r .period) 0) b in
+        let h1 = both (eqb (fieldOf 16 48 (r .w1)) 0) (eqb (axisOf r .age) 0) (h2 .0) in
+        let f = bare-fresh r (eqb-true (fieldOf 16 48 (r .w1)) 0 (h1 .0)) (eqb-true (axisOf r .age) 0 (h1 .1)) (eqb-true (axisOf r .period) 0 (h2 .1)) in
+        true≢false (sym (fresh-from f) ∙ e))
+
+-- The test of a sampled row on what it unpacks to, in the code's order.
+abbrev isFormed : Row → Axis → Bool
+isFormed r a = isPlain r && sampledConfig (a .kind) (a .depth) (a .width) (r .w3) && (isShort a && not (a .armed && a .homed))
+
+abbrev sampledBy : Row → Axis → Bool → Bool
+sampledBy r a fresh = isFormed r a && isPaced a && (not (a .index) || ltb 0 (a .turn)) && (a .primed || fresh)
+
+regroup : (p c s b i f : Bool) → p && c && s && b && i && f ≡ p && c && (s && b && i && f)
+regroup true true s b i f = refl
+regroup true false s b i f = refl
+regroup false c s b i f = refl
+
+pub sampled-by : (r : Row) (a : Axis) → a ≡ axisOf (lowRow r) → sampledBy r a (isBare (r .w1) a) ≡ isSampled r
+sampled-by r a h = go (isPlain r) refl
+  where
+    go : (b : Bool) → isPlain r ≡ b → sampledBy r a (isBare (r .w1) a) ≡ isSampled r
+    go true e =
+        let p = plain r e in
+        ap (λ (x : Axis). sampledBy r x (isBare (r .w1) x)) (h ∙ ap axisOf (low-same r (p .turn)))
+        ∙ ap (sampledBy r (axisOf r)) (bare-test r p)
+        ∙ regroup (isPlain r) _ _ _ _ _
+    go false e = rw e
+
+-- The pace of an axis that rests, and of one that does not.
+pub resting-paced : (a : Axis) → a .direction ≡ 0 → eqb (a .period) 0 ≡ isPaced a
+resting-paced a z = go (eqb (a .period) 0) refl
+  where
+    go : (b : Bool) → eqb (a .period) 0 ≡ b → b ≡ isPaced a
+    go true e = let n = eqb-true (a .period) 0 e in rw (z, n)
+    go false e = rw (z, e, and-false)
+
+pub moving-paced : (a : Axis) → eqb (a .direction) 0 ≡ false → not (eqb (a .direction) 3) && leb (a .period) (2 ^ 32 - 2) ≡ isPaced a
+moving-paced a n = rw (n, and-true)
 
 -- An axis that passes the tests of a sampled one is within its limits.
 pub sampled-axis : (a : Axis) → Held a → 1 ≤ a .word → a .word < 2 ^ 63 → sampledConfig (a .kind) (a .depth) (a .width) (a .turn) ≡ true → isConsistent a ≡ true → SampledAxis a

@@ -12,16 +12,17 @@ use Rattle.fields.proofs.BitLaws.{part-zero}
 use Rattle.axis.specs.declared.config.Config.{Config}
 use Rattle.axis.specs.declared.row.Axis.{Axis}
 use Rattle.axis.specs.declared.row.Row.{Row}
+use Rattle.sound.specs.declared.Opened.{Opened}
 use Rattle.sound.specs.declared.Status.{Status}
 use Rattle.sound.specs.declared.Status.the-variants.{Empty, Sampled, Counter, Broken}
 use Rattle.axis.specs.Kind.{X1, X2, X4, COUNTER, sampledKind}
 use Rattle.axis.specs.Config.{sampledConfig, counterConfig, goodConfig}
-use Rattle.axis.specs.Row.{axisOf, rowOf, word1Of, word2Of, emptyRow, freshAt, blank, Held, Words}
-use Rattle.sound.specs.Sound.{isEmpty, isPlain, isConsistent, isSampled, isCounter, statusOf, passes, SampledAxis, counterOf, CounterAxis}
+use Rattle.axis.specs.Row.{axisOf, rowOf, word1Of, word2Of, emptyRow, freshAt, blank, Narrow, Held, Words}
+use Rattle.sound.specs.Sound.{isEmpty, isPlain, isConsistent, isSampled, isCounter, statusOf, lowRow, passes, SampledAxis, counterOf, CounterAxis}
 use Rattle.axis.proofs.RowLaws.{agree, row-held, fresh-held, row-again, back, comes-back}
 use Rattle.axis.proofs.TestLaws.{both, refuted}
 use Rattle.axis.proofs.ConfigLaws.{sampled-setting, CounterSetting, counter-setting}
-use Rattle.sound.proofs.PassLaws.{Plain, plain, plain-from, sampled-axis, sampled-config, sampled-consistent}
+use Rattle.sound.proofs.PassLaws.{Plain, plain, plain-from, low-same, sampled-axis, sampled-config, sampled-consistent}
 
 -- The parts of the test of a sampled row.
 sampled-parts : (r : Row) → isSampled r ≡ true →
@@ -243,6 +244,28 @@ counter-gives r e =
         turn = h .1 .turn;
       });
     }
+
+-- What any row opens to is within its widths.
+pub opened-narrow : (r : Row) (a : Axis) → a ≡ axisOf (lowRow r) → Narrow a
+opened-narrow r a e = subst Narrow (sym e) (row-held (lowRow r) .narrow)
+
+-- A row that passes the test of a sampled one is that, and what it unpacks to is its axis.
+pub sampled-opens : (r : Row) (a : Axis) → a ≡ axisOf (lowRow r) → isSampled r ≡ true → (statusOf r ≡ Sampled) × (a ≡ axisOf r)
+unfolding passes
+sampled-opens r a h e = (status-of Sampled r e, h ∙ ap axisOf (low-same r (sampled-parts r e .0 .turn)))
+
+-- A row that opens as a sampled one is that, and what it opens to is its axis.
+pub opened-sampled : (r : Row) (o : Opened) → (o .status ≡ statusOf r) × (o .axis ≡ axisOf (lowRow r)) → o .status ≡ Sampled → (statusOf r ≡ Sampled) × (o .axis ≡ axisOf r)
+opened-sampled r o h e =
+    let s = sym (h .0) ∙ e in
+    (s, h .1 ∙ ap axisOf (low-same r (sampled-gives r s .turn)))
+
+-- So is one that opens as a counter.
+pub opened-counter : (r : Row) (o : Opened) → (o .status ≡ statusOf r) × (o .axis ≡ axisOf (lowRow r)) → o .status ≡ Counter → (statusOf r ≡ Counter) × (o .axis ≡ axisOf r)
+opened-counter r o h e =
+    let s = sym (h .0) ∙ e in
+    let zero : r .w3 ≡ 0 = ap (λ (a : Axis). a .turn) (counter-gives r s .rest) in
+    (s, h .1 ∙ ap axisOf (low-same r (omega arith)))
 
 -- HEADLINE: such a counter makes a counter row.
 pub counter-from : {a : Axis} → CounterAxis a → statusOf (rowOf a) ≡ Counter

@@ -1,7 +1,11 @@
 // Which rows are sound.
 ghost use mathlib.Core.Path.{_≡_};
-ghost use mathlib.Core.Bool.{_||_};
-ghost use Rattle.sound.specs.Sound.{isEmpty, isPlain, isFresh, isShort, isPaced, isConsistent, isSampled, isCounter, statusOf};
+ghost use mathlib.Core.Bool.{not, _&&_, _||_};
+ghost use lib.Dec.{eqb, ltb};
+ghost use Rattle.fields.specs.Field.{fieldOf};
+ghost use Rattle.axis.specs.Config.{sampledConfig};
+ghost use Rattle.axis.specs.Row.{axisOf};
+ghost use Rattle.sound.specs.Sound.{isEmpty, isPlain, isShort, isPaced, isSampled, isCounter, statusOf, lowRow, brokenBy};
 use axis::config;
 use axis::row::Axis;
 use axis::row::Row;
@@ -13,6 +17,12 @@ pub enum Status {
     Sampled,
     Counter,
     Broken,
+}
+
+// A row opened: what it is, and the axis that it holds.
+pub struct Opened {
+    pub status: Status,
+    pub axis: Axis,
 }
 
 // Four zero words.
@@ -34,35 +44,25 @@ fn is_plain(r: Row) -> bool
     (1 <= w0) & (w0 < 9223372036854775808) & (low == 0) & (high == 0) & (w3 < 4294967296)
 }
 
-// What an axis that is not primed has at 0.
-fn is_fresh(a: Axis) -> bool
-    ensures { λ b. ⌜ b ≡ isFresh a ⌝ }
-{
-    let levels = a.levels;
-    let runs = a.runs;
-    !a.homed
-        & !a.range
-        & !a.index
-        & !levels[0]
-        & !levels[1]
-        & !levels[2]
-        & (runs[0] == 0)
-        & (runs[1] == 0)
-        & (runs[2] == 0)
-        & (a.doubles == 0)
-        & (a.direction == 0)
-        & (a.age == 0)
-        & (a.period == 0)
-}
-
-// An axis that is not primed is fresh.
-fn is_ready(a: Axis) -> bool
-    ensures { λ b. ⌜ b ≡ (a .primed || isFresh a) ⌝ }
+// An axis is primed, or it is fresh: bits 16 to 63 of its row's word 1, which w1 is, are 0, and so are age and period.
+fn is_ready(w1: u64, a: Axis) -> bool
+    ensures { λ b. ⌜ b ≡ (a .primed || (eqb (fieldOf 16 48 w1) 0 && eqb (a .age) 0 && eqb (a .period) 0)) ⌝ }
 {
     if a.primed {
         return true;
     }
-    is_fresh(a)
+    let rest = fields::field(w1, 16, 48);
+    (rest == 0) & (a.age == 0) & (a.period == 0)
+}
+
+// INDEX is set only where there are counts per turn.
+fn is_indexed(a: Axis) -> bool
+    ensures { λ b. ⌜ b ≡ (not (a .index) || ltb 0 (a .turn)) ⌝ }
+{
+    if a.index {
+        return 0 < a.turn;
+    }
+    true
 }
 
 // Each run is below the depth.
@@ -77,30 +77,37 @@ fn is_short(a: Axis) -> bool
 fn is_paced(a: Axis) -> bool
     ensures { λ b. ⌜ b ≡ isPaced a ⌝ }
 {
-    (a.direction != 3) & (a.period <= 4294967294) & ((a.direction != 0) | (a.period == 0))
+    if a.direction == 0 {
+        return a.period == 0;
+    }
+    (a.direction != 3) & (a.period <= 4294967294)
 }
 
-// What a sampled axis has beyond its configuration.
-fn is_consistent(a: Axis) -> bool
-    ensures { λ b. ⌜ b ≡ isConsistent a ⌝ }
+// What a sampled row has whatever its axis did last: a plain row, a sampled configuration, short runs, and ARMED and HOMED not both.
+fn is_formed(r: Row, a: Axis) -> bool
+    ensures { λ b. ⌜ b ≡ isPlain r && sampledConfig (a .kind) (a .depth) (a .width) (r .w3) && (isShort a && not (a .armed && a .homed)) ⌝ }
 {
-    let turn = a.turn;
     let apart = !(a.armed & a.homed);
-    let indexed = !a.index | (0 < turn);
-    is_short(a) & apart & is_paced(a) & indexed & is_ready(a)
+    let plain = is_plain(r);
+    let config = config::is_sampled(a.kind as u64, a.depth as u64, a.width as u64, r.w3);
+    plain & config & (is_short(a) & apart)
 }
 
-// A sampled row. It is unpacked only once word 3 is known to be below 2^32.
-fn is_sampled(r: Row) -> bool
+// A sampled row, of which a is what it unpacks to: its axis, where word 3 is below 2^32.
+pub fn is_sampled(r: Row, a: Axis) -> bool
+    requires { ⌜ a ≡ axisOf (lowRow r) ⌝ }
     ensures { λ b. ⌜ b ≡ isSampled r ⌝ }
 {
-    if is_plain(r) {
-        let kind = fields::field(r.w1, 0, 4);
-        let depth = fields::field(r.w1, 4, 4);
-        let width = fields::field(r.w1, 8, 6);
-        return config::is_sampled(kind, depth, width, r.w3) & is_consistent(unpack::unpack(r));
+    if !is_formed(r, a) {
+        return false;
     }
-    false
+    if !is_paced(a) {
+        return false;
+    }
+    if !is_indexed(a) {
+        return false;
+    }
+    is_ready(r.w1, a)
 }
 
 // A counter row: past its configuration nothing is set.
@@ -118,17 +125,59 @@ fn is_counter(r: Row) -> bool
 }
 
 // What a row is, by the first test that it passes.
-pub fn classify(r: Row) -> Status
+fn classify(r: Row) -> Status
     ensures { λ s. ⌜ s ≡ statusOf r ⌝ }
 {
     if is_empty(r) {
         return Status::Empty;
     }
-    if is_sampled(r) {
+    if is_sampled(r, axis_in(r)) {
         return Status::Sampled;
     }
     if is_counter(r) {
         return Status::Counter;
     }
     Status::Broken
+}
+
+// Whether a row is broken.
+pub fn is_broken(r: Row) -> bool
+    ensures { λ b. ⌜ b ≡ brokenBy (statusOf r) ⌝ }
+{
+    match classify(r) {
+        Status::Broken => true,
+        Status::Empty => false,
+        Status::Sampled => false,
+        Status::Counter => false,
+    }
+}
+
+// A row with the low 32 bits of word 3.
+fn low(r: Row) -> Row
+    ensures { λ q. ⌜ q ≡ lowRow r ⌝ }
+{
+    Row {
+        w0: r.w0,
+        w1: r.w1,
+        w2: r.w2,
+        w3: fields::field(r.w3, 0, 32),
+    }
+}
+
+// What a row unpacks to. A broken row's word 3 is cut to 32 bits.
+pub fn axis_in(r: Row) -> Axis
+    ensures { λ a. ⌜ a ≡ axisOf (lowRow r) ⌝ }
+{
+    unpack::unpack(low(r))
+}
+
+// What a row is, and what it unpacks to. It is short, so that it is put in line; classify is not.
+pub fn open(r: Row) -> Opened
+    ensures { λ o. ⌜ (o .status ≡ statusOf r) × (o .axis ≡ axisOf (lowRow r)) ⌝ }
+{
+    let axis = axis_in(r);
+    Opened {
+        status: classify(r),
+        axis,
+    }
 }

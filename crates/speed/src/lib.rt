@@ -4,11 +4,10 @@ ghost use Prim.Native.Nat.{max};
 ghost use Rattle.speed.specs.Speed.{signOf, speedOf, speedRow};
 use axis::row::Axis;
 use axis::row::Row;
-use packing::unpack::unpack;
 use reckon::Reckoned;
 use refusal::Refusal;
 use sound::Status;
-use sound::classify;
+use sound::open;
 
 // One count, with the sign of a direction.
 fn sign(direction: u8) -> i64
@@ -44,10 +43,13 @@ fn by_period(a: Axis, rate: u64) -> Reckoned
 pub fn speed(r: Row, rate: u64) -> Reckoned
     ensures { λ n. ⌜ n ≡ speedRow rate r ⌝ }
 {
-    match classify(r) {
+    let opened = open(r);
+    let status = opened.status;
+    let axis = opened.axis;
+    match status {
         Status::Broken => Reckoned::Refused(Refusal::Broken),
         Status::Empty => Reckoned::Refused(Refusal::Empty),
         Status::Counter => Reckoned::Refused(Refusal::Kind),
-        Status::Sampled => by_period(unpack(r), rate),
+        Status::Sampled => by_period(axis, rate),
     }
 }

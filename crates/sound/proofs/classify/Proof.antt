@@ -11,13 +11,16 @@ returns : tie.Need-returns
 unfolding statusOf
 returns c = rw (sym (c .before .is-empty .ensures) ∙ c .if1 .taken)
 
+axis-in-requires : tie.Need-axis-in-requires
+axis-in-requires c κs = search needs
+
 is-sampled-requires : tie.Need-is-sampled-requires
 is-sampled-requires c κs = search needs
 
 returns-2 : tie.Need-returns-2
 unfolding statusOf
 returns-2 c =
-    let e = c .before .before in
+    let e = c .before .before .before in
     rw (sym (e .before .is-empty .ensures) ∙ e .if1 .left, sym (c .before .is-sampled .ensures) ∙ c .if2 .taken)
 
 is-counter-requires : tie.Need-is-counter-requires
@@ -27,7 +30,7 @@ returns-3 : tie.Need-returns-3
 unfolding statusOf
 returns-3 c =
     let s = c .before .before in
-    let e = s .before .before in
+    let e = s .before .before .before in
     rw (
       sym (e .before .is-empty .ensures) ∙ e .if1 .left,
       sym (s .before .is-sampled .ensures) ∙ s .if2 .left,
@@ -38,7 +41,7 @@ returns-4 : tie.Need-returns-4
 unfolding statusOf
 returns-4 c =
     let s = c .before .before in
-    let e = s .before .before in
+    let e = s .before .before .before in
     rw (
       sym (e .before .is-empty .ensures) ∙ e .if1 .left,
       sym (s .before .is-sampled .ensures) ∙ s .if2 .left,
@@ -51,6 +54,7 @@ classify-spec =
     (tie.spec
     is-empty-requires
     returns
+    axis-in-requires
     is-sampled-requires
     returns-2
     is-counter-requires

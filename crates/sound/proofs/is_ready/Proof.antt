@@ -5,11 +5,11 @@ use Rattle.sound.proofs.is_ready.Tie as tie
 returns : tie.Need-returns
 returns c = rw (c .if1 .taken)
 
-is-fresh-requires : tie.Need-is-fresh-requires
-is-fresh-requires c κs = search needs
+field-requires : tie.Need-field-requires
+field-requires c κs = search needs
 
 returns-2 : tie.Need-returns-2
-returns-2 c = rw (c .is-fresh .ensures, c .before .if1 .left)
+returns-2 c = rw (c .before .before .field .ensures, c .before .before .before .if1 .left)
 
 pub is-ready-spec : {M : Type 1} → statement M
-is-ready-spec = tie.close (tie.spec returns is-fresh-requires returns-2)
+is-ready-spec = tie.close (tie.spec returns field-requires returns-2)

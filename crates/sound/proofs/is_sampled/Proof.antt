@@ -1,61 +1,72 @@
 use mathlib.Core.Path.{sym, _∙_}
+use borrow.Author.Tests.{not-true, not-false}
+use Rattle.sound.proofs.PassLaws.{sampled-by}
 use borrow.Author.Needs.{needs}
-use Rattle.sound.proofs.PassLaws.{plain}
 use Rattle.sound.proofs.is_sampled.Statement.{statement}
 use Rattle.sound.proofs.is_sampled.Tie as tie
 
-is-plain-requires : tie.Need-is-plain-requires
-is-plain-requires c κs = search needs
-
-field-requires : tie.Need-field-requires
-field-requires c κs = search needs
-
-field-requires-2 : tie.Need-field-requires-2
-field-requires-2 c κs = search needs
-
-field-requires-3 : tie.Need-field-requires-3
-field-requires-3 c κs = search needs
-
-is-sampled-requires : tie.Need-is-sampled-requires
-is-sampled-requires c κs = search needs
-
-unpack-requires : tie.Need-unpack-requires
-unpack-requires c κs =
-    let i = c .before .before .before .before in
-    let p = plain (i .before .before .args .r) (sym (i .before .is-plain .ensures) ∙ i .if1 .taken) in
-    p .turn
-
-is-consistent-requires : tie.Need-is-consistent-requires
-is-consistent-requires c κs = search needs
+is-formed-requires : tie.Need-is-formed-requires
+is-formed-requires c κs = search needs
 
 returns : tie.Need-returns
 returns c =
-    let u = c .before in
-    let s = u .before in
-    let i = s .before .before .before .before in
-    rw (
-      sym (i .before .is-plain .ensures) ∙ i .if1 .taken,
-      c .is-consistent .ensures,
-      u .unpack .ensures,
-      s .is-sampled .ensures,
-      s .before .before .before .field .ensures,
-      s .before .before .field2 .ensures,
-      s .before .field3 .ensures,
-    )
+    let f = c .before in
+    let s = f .before in
+    rw (sym (f .is-formed .ensures) ∙ not-true _ (c .if1 .taken)) at (sampled-by (s .args .r) (s .args .a) (s .pre))
+
+is-paced-requires : tie.Need-is-paced-requires
+is-paced-requires c κs = search needs
 
 returns-2 : tie.Need-returns-2
-returns-2 c = rw (sym (c .before .is-plain .ensures) ∙ c .if1 .left)
+returns-2 c =
+    let p = c .before in
+    let f = p .before .before in
+    let s = f .before in
+    rw (
+      sym (f .is-formed .ensures) ∙ not-false _ (p .before .if1 .left),
+      sym (p .is-paced .ensures) ∙ not-true _ (c .if2 .taken),
+    ) at (sampled-by (s .args .r) (s .args .a) (s .pre))
+
+is-indexed-requires : tie.Need-is-indexed-requires
+is-indexed-requires c κs = search needs
+
+returns-3 : tie.Need-returns-3
+returns-3 c =
+    let i = c .before in
+    let p = i .before .before in
+    let f = p .before .before in
+    let s = f .before in
+    rw (
+      sym (f .is-formed .ensures) ∙ not-false _ (p .before .if1 .left),
+      sym (p .is-paced .ensures) ∙ not-false _ (i .before .if2 .left),
+      sym (i .is-indexed .ensures) ∙ not-true _ (c .if3 .taken),
+    ) at (sampled-by (s .args .r) (s .args .a) (s .pre))
+
+is-ready-requires : tie.Need-is-ready-requires
+is-ready-requires c κs = search needs
+
+returns-4 : tie.Need-returns-4
+returns-4 c =
+    let i = c .before .before in
+    let p = i .before .before in
+    let f = p .before .before in
+    let s = f .before in
+    c .is-ready .ensures
+    ∙ rw (
+      sym (f .is-formed .ensures) ∙ not-false _ (p .before .if1 .left),
+      sym (p .is-paced .ensures) ∙ not-false _ (i .before .if2 .left),
+      sym (i .is-indexed .ensures) ∙ not-false _ (c .before .if3 .left),
+    ) at (sampled-by (s .args .r) (s .args .a) (s .pre))
 
 pub is-sampled-spec : {M : Type 1} → statement M
 is-sampled-spec =
     tie.close
     (tie.spec
-    is-plain-requires
-    field-requires
-    field-requires-2
-    field-requires-3
-    is-sampled-requires
-    unpack-requires
-    is-consistent-requires
+    is-formed-requires
     returns
-    returns-2)
+    is-paced-requires
+    returns-2
+    is-indexed-requires
+    returns-3
+    is-ready-requires
+    returns-4)

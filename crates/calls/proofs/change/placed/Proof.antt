@@ -5,10 +5,8 @@ use borrow.Author.Tests.{not-true, not-false}
 use Rattle.integers.proofs.Machine.{back}
 use Rattle.position.specs.Position.{inRange}
 use Rattle.axis.specs.Row.{rowOf}
-use Rattle.axis.specs.declared.row.Axis.{Axis}
 use Rattle.calls.specs.declared.answer.Changed.the-variants.{To}
-use Rattle.calls.specs.Change.{changed, presetAxis}
-use Rattle.calls.specs.Calls.{placeRow}
+use Rattle.calls.specs.Change.{changed}
 use Rattle.calls.proofs.StatusLaws.{packs}
 use borrow.Author.Needs.{needs}
 use Rattle.calls.proofs.change.placed.Statement.{statement}
@@ -22,32 +20,27 @@ in-range-requires : tie.Need-in-range-requires
 in-range-requires c κs = search needs
 
 returns : tie.Need-returns
-unfolding placeRow
 returns c = rw (sym (rw (back (c .before .before .fits .position)) at (c .before .in-range .ensures)) ∙ not-true _ (c .if1 .taken))
 
-unpack-requires : tie.Need-unpack-requires
-unpack-requires c κs = search needs
-
 word-of-requires : tie.Need-word-of-requires
-word-of-requires c κs = rw (back (c .before .before .before .fits .position)) (ok (c .before))
+word-of-requires c κs = rw (back (c .before .before .fits .position)) (ok c)
 
 pack-requires : tie.Need-pack-requires
 unfolding changed
-pack-requires c κs = packs (c .before .unpack .result) (c .before .before .before .before .args .r) (c .before .unpack .ensures) _ _ _ _ _ _ (search needs)
+pack-requires c κs = packs (c .before .before .before .pre) _ _ _ _ _ _ (search needs)
 
 returns-2 : tie.Need-returns-2
-unfolding changed placeRow
+unfolding changed
 returns-2 c =
-    let s = c .before .before .before .before .before in
-    let u = c .before .before .unpack .result in
+    let s = c .before .before .before .before in
+    let u = s .args .x in
     let w = rw (back (s .fits .position)) at (c .before .word-of .ensures) in
-    rw (ok (c .before .before .before))
+    rw (ok (c .before .before))
     (ap To
     (c .pack .ensures
-    ∙ ap (λ (n : ℕ). rowOf (changed u n (u .armed) false false (u .index) (u .doubles))) w
-    ∙ ap (λ (a : Axis). rowOf (presetAxis (s .args .position) a)) (c .before .before .unpack .ensures)))
+    ∙ ap (λ (n : ℕ). rowOf (changed u n (u .armed) false false (u .index) (u .doubles))) w))
 
 pub placed-spec : {M : Type 1} → statement M
 placed-spec =
     tie.close
-    (tie.spec in-range-requires returns unpack-requires word-of-requires pack-requires returns-2)
+    (tie.spec in-range-requires returns word-of-requires pack-requires returns-2)

@@ -1,13 +1,13 @@
 use Rattle.integers.proofs.Machine.{back}
-use mathlib.Core.Path.{sym, _∙_}
-use Rattle.calls.specs.Calls.{presetRow}
-use Rattle.calls.proofs.StatusLaws.{sampled-positioned, counter-positioned}
+use mathlib.Core.Path.{sym, ap, _∙_}
+use Rattle.calls.specs.Calls.{placeAxis, placeRow, presetRow}
+use Rattle.sound.proofs.SoundLaws.{opened-narrow, opened-sampled, opened-counter}
 use borrow.Author.Needs.{needs}
 use Rattle.calls.proofs.change.preset.Statement.{statement}
 use Rattle.calls.proofs.change.preset.Tie as tie
 
-classify-requires : tie.Need-classify-requires
-classify-requires c κs = search needs
+open-requires : tie.Need-open-requires
+open-requires c κs = search needs
 
 enum-told : tie.Need-enum-told
 enum-told c = search needs
@@ -19,35 +19,41 @@ enum-told-3 : tie.Need-enum-told-3
 enum-told-3 c = search needs
 
 placed-requires : tie.Need-placed-requires
-placed-requires c κs = sampled-positioned (c .before .before .before .args .r) (sym (c .before .before .classify .ensures) ∙ c .enum-told3 .given .1)
+placed-requires c κs = let o = c .before .before .before in opened-narrow (o .before .args .r) _ (o .open .ensures .1)
 
 enum-told-4 : tie.Need-enum-told-4
 enum-told-4 c = search needs
 
 placed-requires-2 : tie.Need-placed-requires-2
-placed-requires-2 c κs = counter-positioned (c .before .before .before .args .r) (sym (c .before .before .classify .ensures) ∙ c .enum-told4 .given .1)
+placed-requires-2 c κs = let o = c .before .before .before in opened-narrow (o .before .args .r) _ (o .open .ensures .1)
 
 returns : tie.Need-returns
 unfolding presetRow
-returns c = rw (sym (c .before .before .classify .ensures) ∙ c .enum-told .given .1)
+returns c = rw (sym (c .before .before .before .open .ensures .0) ∙ c .enum-told .given .1)
 
 returns-2 : tie.Need-returns-2
 unfolding presetRow
-returns-2 c = rw (sym (c .before .before .classify .ensures) ∙ c .enum-told2 .given .1)
+returns-2 c = rw (sym (c .before .before .before .open .ensures .0) ∙ c .enum-told2 .given .1)
 
 returns-3 : tie.Need-returns-3
-unfolding presetRow
-returns-3 c = rw (sym (c .before .before .before .classify .ensures) ∙ c .before .enum-told3 .given .1) (rw (back (c .before .before .before .before .fits .position)) at (c .placed .ensures))
+unfolding presetRow placeRow
+returns-3 c =
+    let o = c .before .before .before .before in
+    let g = opened-sampled (o .before .args .r) (o .open .result) (o .open .ensures) (c .before .enum-told3 .given .1) in
+    rw (g .0) (rw (back (o .before .fits .position)) at (c .placed .ensures) ∙ ap (placeAxis (o .before .args .position)) (g .1))
 
 returns-4 : tie.Need-returns-4
-unfolding presetRow
-returns-4 c = rw (sym (c .before .before .before .classify .ensures) ∙ c .before .enum-told4 .given .1) (rw (back (c .before .before .before .before .fits .position)) at (c .placed2 .ensures))
+unfolding presetRow placeRow
+returns-4 c =
+    let o = c .before .before .before .before in
+    let g = opened-counter (o .before .args .r) (o .open .result) (o .open .ensures) (c .before .enum-told4 .given .1) in
+    rw (g .0) (rw (back (o .before .fits .position)) at (c .placed2 .ensures) ∙ ap (placeAxis (o .before .args .position)) (g .1))
 
 pub preset-spec : {M : Type 1} → statement M
 preset-spec =
     tie.close
     (tie.spec
-    classify-requires
+    open-requires
     enum-told
     enum-told-2
     enum-told-3

@@ -1,66 +1,55 @@
-use Rattle.sample.specs.Step.{stepRow, stepBy}
-use mathlib.Core.Path.{sym, _∙_}
+use mathlib.Core.Path.{sym, ap, _∙_}
+use Rattle.axis.specs.declared.row.Axis.{Axis}
+use Rattle.sound.proofs.SoundLaws.{sampled-gives, sampled-opens}
+use Rattle.lines.specs.Lines.{rawOf}
+use Rattle.sample.specs.Step.{packed, stepAxis}
+use Rattle.sample.proofs.RowLaws.{row-steps, other-stays}
 use borrow.Author.Needs.{needs}
 use Rattle.sample.proofs.step.step_row.Statement.{statement}
 use Rattle.sample.proofs.step.step_row.Tie as tie
 
-classify-requires : tie.Need-classify-requires
-classify-requires c κs = search needs
+axis-in-requires : tie.Need-axis-in-requires
+axis-in-requires c κs = search needs
 
-enum-told : tie.Need-enum-told
-enum-told c = search needs
+is-sampled-requires : tie.Need-is-sampled-requires
+is-sampled-requires c κs = search needs
 
 step-sampled-requires : tie.Need-step-sampled-requires
-step-sampled-requires c κs = sym (c .before .before .classify .ensures) ∙ c .enum-told .given .1
+step-sampled-requires c κs =
+    let s = c .before in
+    let x = s .before in
+    let r = x .before .args .r in
+    let g = sampled-opens r _ (x .axis-in .ensures) (sym (s .is-sampled .ensures) ∙ c .if1 .taken) in
+    rw (g .1) (sampled-gives r (g .0))
 
-enum-told-2 : tie.Need-enum-told-2
-enum-told-2 c = search needs
+returns : tie.Need-returns
+returns c =
+    let s = c .before .before in
+    let x = s .before in
+    let b = x .before .args in
+    let g = sampled-opens (b .r) _ (x .axis-in .ensures) (sym (s .is-sampled .ensures) ∙ c .before .if1 .taken) in
+    c .step-sampled .ensures ∙ ap (λ (a : Axis). packed (stepAxis a (rawOf (b .nibble)))) (g .1) ∙ sym (row-steps (b .r) (b .nibble) (g .0))
+
+is-broken-requires : tie.Need-is-broken-requires
+is-broken-requires c κs = search needs
 
 keep-requires : tie.Need-keep-requires
 keep-requires c κs = search needs
 
-enum-told-3 : tie.Need-enum-told-3
-enum-told-3 c = search needs
-
-keep-requires-2 : tie.Need-keep-requires-2
-keep-requires-2 c κs = search needs
-
-enum-told-4 : tie.Need-enum-told-4
-enum-told-4 c = search needs
-
-keep-requires-3 : tie.Need-keep-requires-3
-keep-requires-3 c κs = search needs
-
-returns : tie.Need-returns
-unfolding stepRow stepBy
-returns c = rw (c .step-sampled .ensures, sym (c .before .before .before .classify .ensures) ∙ c .before .enum-told .given .1)
-
 returns-2 : tie.Need-returns-2
-unfolding stepRow stepBy
-returns-2 c = rw (c .keep .ensures, sym (c .before .before .before .classify .ensures) ∙ c .before .enum-told2 .given .1)
-
-returns-3 : tie.Need-returns-3
-unfolding stepRow stepBy
-returns-3 c = rw (c .keep2 .ensures, sym (c .before .before .before .classify .ensures) ∙ c .before .enum-told3 .given .1)
-
-returns-4 : tie.Need-returns-4
-unfolding stepRow stepBy
-returns-4 c = rw (c .keep3 .ensures, sym (c .before .before .before .classify .ensures) ∙ c .before .enum-told4 .given .1)
+returns-2 c =
+    let s = c .before .before .before in
+    let b = s .before .before .args in
+    rw (c .keep .ensures, c .before .is-broken .ensures) (sym (other-stays (b .r) (b .nibble) (sym (s .is-sampled .ensures) ∙ c .before .before .if1 .left)))
 
 pub step-row-spec : {M : Type 1} → statement M
 step-row-spec =
     tie.close
     (tie.spec
-    classify-requires
-    enum-told
+    axis-in-requires
+    is-sampled-requires
     step-sampled-requires
-    enum-told-2
-    keep-requires
-    enum-told-3
-    keep-requires-2
-    enum-told-4
-    keep-requires-3
     returns
-    returns-2
-    returns-3
-    returns-4)
+    is-broken-requires
+    keep-requires
+    returns-2)

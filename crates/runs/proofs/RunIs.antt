@@ -1,0 +1,148 @@
+-- A call of a run is what the contract of that call promises: port: `Samples`, table: `Makes`, `Reads`, `Saves`, `viewedIn`, `speedIn`.
+use Prim.Native.Nat.{ℕ}
+use native.Mathlib.Omega.{arith}
+use mathlib.Core.Path.{_≡_, refl, sym, ap, _∙_}
+use mathlib.Core.Logic.{_↔_}
+use mathlib.Core.List.{List}
+use lib.IntN.{ℤ}
+use lib.ListN.{length}
+use Rattle.refusal.specs.declared.Refusal.{Refusal}
+use Rattle.reckon.specs.declared.Reckoned.{Reckoned}
+use Rattle.reckon.specs.declared.Reckoned.the-variants.{Number, Refused as Unreckoned}
+use Rattle.axis.specs.declared.row.Row.{Row}
+use Rattle.record.specs.declared.answer.Written.{Written}
+use Rattle.record.specs.declared.answer.Written.the-variants.{Refused as Unwritten}
+use Rattle.calls.specs.Answer.{doneOf}
+use Rattle.calls.specs.Calls.{setupRow, eraseRow, presetRow, armRow, acknowledgeRow, viewRow}
+use Rattle.keeping.specs.Saving.{saveRow, savedIn, restoreRow}
+use Rattle.speed.specs.Speed.{speedRow}
+use Rattle.counter.specs.Reading.{readingRow}
+use Rattle.calls.specs.declared.answer.Changed.{Changed}
+use Rattle.calls.specs.declared.answer.Changed.the-variants.{Kept}
+use Rattle.calls.specs.declared.answer.Done.{Done}
+use Rattle.calls.specs.declared.answer.Done.the-variants.{Yes, Refused as Undone}
+use Rattle.calls.specs.declared.answer.Viewed.{Viewed}
+use Rattle.calls.specs.declared.answer.Viewed.the-variants.{Shows, Refused as Unseen}
+use Rattle.rows.specs.Located.{located, onFound}
+use Rattle.rows.specs.declared.Located.{Located}
+use Rattle.rows.specs.declared.Located.the-variants.{At, Refused}
+use Rattle.port.specs.Port.{Samples}
+use Rattle.port.specs.declared.Sampled.{Sampled}
+use Rattle.table.specs.Call.{Makes, viewedIn, Reads, speedIn, Saves}
+use Rattle.runs.specs.Told.{Told, refused, toldDone, toldView, toldNumber, toldBytes}
+use Rattle.runs.specs.Op.{Change, setup, erase, preset, arm, acknowledge, restore, view, speed, save, changes, reading, looks, changeRow, lookRow, ruleOf, answerOf}
+use Rattle.runs.specs.Run.{port, tableBy, tableNext, bitsOf, answerIn, heardOf, Says}
+use Rattle.runs.proofs.CallLaws.{look-keeps}
+
+-- ---- an answer and what it tells are one
+
+-- What is told of an answer that goes by the named row.
+tell-found : {A : Type 0} (tell : A → Told) (refuse : Refusal → A) (say : Row → A) → ((e : Refusal) → tell (refuse e) ≡ refused e) →
+    (l : Located) → tell (onFound refuse say l) ≡ onFound refused (λ r. tell (say r)) l
+tell-found tell refuse say same (At r) = refl
+tell-found tell refuse say same (Refused e) = same e
+
+done-only : (a b : Done) → toldDone a ≡ toldDone b → a ≡ b
+done-only Yes Yes q = refl
+done-only Yes (Undone e) q = absurd (let z : _≡_ {A = ℕ} 0 1 = cc in omega arith)
+done-only (Undone e) Yes q = absurd (let z : _≡_ {A = ℕ} 0 1 = cc in omega arith)
+done-only (Undone e) (Undone f) q = cc
+
+view-only : (a b : Viewed) → toldView a ≡ toldView b → a ≡ b
+view-only (Shows v) (Shows w) q = cc
+view-only (Shows v) (Unseen e) q = absurd (let z : _≡_ {A = ℕ} 0 1 = cc in omega arith)
+view-only (Unseen e) (Shows v) q = absurd (let z : _≡_ {A = ℕ} 0 1 = cc in omega arith)
+view-only (Unseen e) (Unseen f) q = cc
+
+number-only : (a b : Reckoned) → toldNumber a ≡ toldNumber b → a ≡ b
+number-only (Number x) (Number y) q = cc
+number-only (Number x) (Unreckoned e) q = absurd (let z : _≡_ {A = ℕ} 0 1 = cc in omega arith)
+number-only (Unreckoned e) (Number x) q = absurd (let z : _≡_ {A = ℕ} 0 1 = cc in omega arith)
+number-only (Unreckoned e) (Unreckoned f) q = cc
+
+-- ---- the eleven calls
+
+-- HEADLINE: a port sample.
+pub sample-is : {t u : List ℕ} {word : ℕ} {a : Sampled} → Samples t word u a →
+    (u ≡ tableNext t (port word)) × ((k : ℕ) → bitsOf k a ≡ heardOf k t (port word))
+unfolding tableNext heardOf
+sample-is w = (w .table, λ k. ap (bitsOf k) (w .answer))
+
+module _ {t u : List ℕ} {k : ℕ} where
+  -- The six calls that answer only that they were done.
+  change-is : (c : Change) {a : Done} → Makes (changeRow c) t k u a ↔ Says (changes c) t k u (toldDone a)
+  unfolding tableNext tableBy answerIn answerOf ruleOf
+  change-is c {a} =
+      let told = tell-found (λ (d : Changed). toldDone (doneOf d)) Kept (changeRow c) (λ e. refl) (located t k) in (
+        (λ w. record { table = w .table; told = ap toldDone (w .answer) ∙ told }),
+        (λ s. record { answer = done-only a _ (s .told ∙ sym told); table = s .table }),
+      )
+
+  -- HEADLINE: setup.
+  pub setup-is : (kind depth width turn : ℕ) {a : Done} →
+      Makes (setupRow kind depth width turn) t k u a ↔ Says (changes (setup kind depth width turn)) t k u (toldDone a)
+  unfolding changeRow
+  setup-is kind depth width turn = change-is (setup kind depth width turn)
+
+  -- HEADLINE: erase.
+  pub erase-is : {a : Done} → Makes eraseRow t k u a ↔ Says (changes erase) t k u (toldDone a)
+  unfolding changeRow
+  erase-is = change-is erase
+
+  -- HEADLINE: preset.
+  pub preset-is : (p : ℤ) {a : Done} → Makes (presetRow p) t k u a ↔ Says (changes (preset p)) t k u (toldDone a)
+  unfolding changeRow
+  preset-is p = change-is (preset p)
+
+  -- HEADLINE: arm.
+  pub arm-is : {a : Done} → Makes armRow t k u a ↔ Says (changes arm) t k u (toldDone a)
+  unfolding changeRow
+  arm-is = change-is arm
+
+  -- HEADLINE: acknowledge.
+  pub acknowledge-is : {a : Done} → Makes acknowledgeRow t k u a ↔ Says (changes acknowledge) t k u (toldDone a)
+  unfolding changeRow
+  acknowledge-is = change-is acknowledge
+
+  -- HEADLINE: restore.
+  pub restore-is : (bytes : List ℕ) {a : Done} → Makes (restoreRow bytes) t k u a ↔ Says (changes (restore bytes)) t k u (toldDone a)
+  unfolding changeRow
+  restore-is bytes = change-is (restore bytes)
+
+  -- HEADLINE: a reading.
+  pub reading-is : (x : ℕ) {a : Reckoned} → Reads x t k u a ↔ Says (reading x) t k u (toldNumber a)
+  unfolding tableNext tableBy answerIn answerOf ruleOf
+  reading-is x {a} =
+      let told = tell-found toldNumber Unreckoned (readingRow x) (λ e. refl) (located t k) in (
+        (λ w. record { table = w .table; told = ap toldNumber (w .answer) ∙ told }),
+        (λ s. record { answer = number-only a _ (s .told ∙ sym told); table = s .table }),
+      )
+
+  -- HEADLINE: a view, which leaves the table.
+  pub view-is : {a : Viewed} → ((u ≡ t) × (a ≡ viewedIn t k)) ↔ Says (looks view) t k u (toldView a)
+  unfolding tableNext answerIn answerOf lookRow
+  view-is {a} =
+      let told = tell-found toldView Unseen viewRow (λ e. refl) (located t k) in (
+        (λ w. record { table = w .0 ∙ sym (look-keeps t k view); told = ap toldView (w .1) ∙ told }),
+        (λ s. (s .table ∙ look-keeps t k view, view-only a _ (s .told ∙ sym told))),
+      )
+
+  -- HEADLINE: a speed by period, which leaves the table.
+  pub speed-is : (rate : ℕ) {a : Reckoned} → ((u ≡ t) × (a ≡ speedIn rate t k)) ↔ Says (looks (speed rate)) t k u (toldNumber a)
+  unfolding tableNext answerIn answerOf lookRow
+  speed-is rate {a} =
+      let told = tell-found toldNumber Unreckoned (speedRow rate) (λ e. refl) (located t k) in (
+        (λ w. record { table = w .0 ∙ sym (look-keeps t k (speed rate)); told = ap toldNumber (w .1) ∙ told }),
+        (λ s. (s .table ∙ look-keeps t k (speed rate), number-only a _ (s .told ∙ sym told))),
+      )
+
+-- HEADLINE: a save, which leaves the table: b is what the buffer holds before it, d after it.
+pub save-is : {t : List ℕ} {k : ℕ} {b d : List ℕ} {a : Written} → Saves t k b d a → Says (looks (save b)) t k t (toldBytes a d)
+unfolding tableNext answerIn answerOf lookRow
+save-is {t} {k} {b} {d} {a} w = record { table = sym (look-keeps t k (save b)); told = rw (w .answer, w .buffer) (go (located t k)) }
+  where
+    go : (l : Located) →
+        toldBytes (onFound Unwritten (saveRow (length b)) l) (onFound (λ _. b) (savedIn b) l)
+        ≡ onFound refused (answerOf (looks (save b))) l
+    go (At r) = refl
+    go (Refused e) = refl

@@ -1,0 +1,4 @@
+pub mod Told
+pub mod Op
+pub mod Event
+pub mod Run

@@ -1,0 +1,54 @@
+-- What an axis is told: document 01, "A port sample", "Calls that name one axis" and "Reasons for saying no".
+use Prim.Native.Nat.{ℕ}
+use mathlib.Core.Bool.{Bool}
+use mathlib.Core.List.{List}
+use lib.IntN.{ℤ}
+use lib.ListN.{take}
+use Rattle.refusal.specs.declared.Refusal.{Refusal}
+use Rattle.reckon.specs.declared.Reckoned.{Reckoned}
+use Rattle.reckon.specs.declared.Reckoned.the-variants.{Number, Refused as Unreckoned}
+use Rattle.sample.specs.declared.step.SteppedRow.{SteppedRow}
+use Rattle.record.specs.declared.answer.Written.{Written}
+use Rattle.record.specs.declared.answer.Written.the-variants.{Bytes, Refused as Unwritten}
+use Rattle.calls.specs.declared.answer.Done.{Done}
+use Rattle.calls.specs.declared.answer.Done.the-variants.{Yes, Refused as Undone}
+use Rattle.calls.specs.declared.answer.View.{View}
+use Rattle.calls.specs.declared.answer.Viewed.{Viewed}
+use Rattle.calls.specs.declared.answer.Viewed.the-variants.{Shows, Refused as Unseen}
+
+-- An axis's bits of the three masks: double step, index rise, broken row.
+pub record Marks : Type 0 where
+  pub double : Bool
+  pub index : Bool
+  pub broken : Bool
+
+-- The bits of a sample on a row.
+abbrev pub marksOf : SteppedRow → Marks
+marksOf s = record { double = s .double; index = s .index; broken = s .broken }
+
+-- What an axis is told: its bits of the masks, or the answer of a call that names it, with the bytes that a save wrote.
+pub data Told : Type 0 where
+  marks : Marks → Told
+  refused : Refusal → Told
+  done : Told
+  shown : View → Told
+  number : ℤ → Told
+  wrote : ℕ → List ℕ → Told
+
+-- What the answers of the calls tell; a refusal is told alike by all.
+abbrev pub toldDone : Done → Told
+toldDone Yes = done
+toldDone (Undone e) = refused e
+
+abbrev pub toldView : Viewed → Told
+toldView (Shows v) = shown v
+toldView (Unseen e) = refused e
+
+abbrev pub toldNumber : Reckoned → Told
+toldNumber (Number z) = number z
+toldNumber (Unreckoned e) = refused e
+
+-- A save tells the bytes that it wrote, of what the buffer holds after it.
+abbrev pub toldBytes : Written → List ℕ → Told
+toldBytes (Bytes n) buffer = wrote n (take n buffer)
+toldBytes (Unwritten e) buffer = refused e
