@@ -1,6 +1,6 @@
 //! The calls, the memory that is lent to them, and how each is made on either side.
 
-use crate::face;
+use crate::library;
 use crate::reference::{Axis, Masks, Reference, Refusal, MOST_AXES};
 
 /// A call and its numbers. Save, restore and the record's test work on the bytes that the memory lends.
@@ -127,9 +127,9 @@ impl Memory {
 /// All that a call answers, field by field as in the header.
 #[derive(Clone, Copy, PartialEq, Eq, Debug)]
 pub enum Outcome {
-    Answer(face::Answer),
-    Sampled(face::Sampled),
-    View(face::View),
+    Answer(library::Answer),
+    Sampled(library::Sampled),
+    View(library::View),
 }
 
 impl Outcome {
@@ -142,24 +142,24 @@ impl Outcome {
     }
 }
 
-/// Makes a call of the proved library, through the C face.
+/// Makes a call of the proved library, over its C interface.
 pub fn proved(call: &Call, memory: &mut Memory) -> Outcome {
     let (table, bytes) = memory.lent();
     Outcome::Answer(match *call {
-        Call::Sample { port } => return Outcome::Sampled(face::sample(table, port)),
-        Call::Look { axis } => return Outcome::View(face::look(table, axis)),
-        Call::Setup { axis, kind, depth, width, turn } => face::setup(table, axis, kind, depth, width, turn),
-        Call::Erase { axis } => face::erase(table, axis),
-        Call::Preset { axis, position } => face::preset(table, axis, position),
-        Call::Arm { axis } => face::arm(table, axis),
-        Call::Acknowledge { axis } => face::acknowledge(table, axis),
-        Call::Reading { axis, reading } => face::reading(table, axis, reading),
-        Call::SpeedByPeriod { axis, rate } => face::speed_by_period(table, axis, rate),
-        Call::Save { axis } => face::save(table, axis, bytes),
-        Call::Restore { axis } => face::restore(table, axis, bytes),
-        Call::Widen { width, position, reading } => face::widen(width, position, reading),
-        Call::SpeedByCount { difference, samples, rate } => face::speed_by_count(difference, samples, rate),
-        Call::TestRecord => face::test_record(bytes),
+        Call::Sample { port } => return Outcome::Sampled(library::sample(table, port)),
+        Call::Look { axis } => return Outcome::View(library::look(table, axis)),
+        Call::Setup { axis, kind, depth, width, turn } => library::setup(table, axis, kind, depth, width, turn),
+        Call::Erase { axis } => library::erase(table, axis),
+        Call::Preset { axis, position } => library::preset(table, axis, position),
+        Call::Arm { axis } => library::arm(table, axis),
+        Call::Acknowledge { axis } => library::acknowledge(table, axis),
+        Call::Reading { axis, reading } => library::reading(table, axis, reading),
+        Call::SpeedByPeriod { axis, rate } => library::speed_by_period(table, axis, rate),
+        Call::Save { axis } => library::save(table, axis, bytes),
+        Call::Restore { axis } => library::restore(table, axis, bytes),
+        Call::Widen { width, position, reading } => library::widen(width, position, reading),
+        Call::SpeedByCount { difference, samples, rate } => library::speed_by_count(difference, samples, rate),
+        Call::TestRecord => library::test_record(bytes),
     })
 }
 
@@ -197,13 +197,13 @@ fn reason<T>(result: &Result<T, Refusal>) -> (u32, u32) {
 
 fn answer(result: Result<i64, Refusal>) -> Outcome {
     let (refusal, found) = reason(&result);
-    Outcome::Answer(face::Answer { refusal, found, value: result.unwrap_or(0) })
+    Outcome::Answer(library::Answer { refusal, found, value: result.unwrap_or(0) })
 }
 
 fn sampled(result: Result<Masks, Refusal>) -> Outcome {
     let (refusal, found) = reason(&result);
     let masks = result.unwrap_or_default();
-    Outcome::Sampled(face::Sampled {
+    Outcome::Sampled(library::Sampled {
         refusal,
         found,
         doubles: masks.doubles.into(),
@@ -216,7 +216,7 @@ fn view(result: Result<Axis, Refusal>) -> Outcome {
     let (refusal, found) = reason(&result);
     let axis = result.ok();
     let flag = |flag: fn(&Axis) -> bool| axis.as_ref().is_some_and(flag).into();
-    Outcome::View(face::View {
+    Outcome::View(library::View {
         refusal,
         found,
         position: axis.map_or(0, |axis| axis.position),

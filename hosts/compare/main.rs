@@ -1,11 +1,11 @@
-//! Holds the proved library, through its C face, against an independent implementation in ordinary Rust.
+//! Holds the proved library, over its C interface, against an independent implementation in ordinary Rust.
 //!
 //!     compare [--seed N] [--calls N]            random calls on both sides; a difference fails it
 //!     compare --faults [--seed N] [--calls N]   the same with each fault put into the Rust side; one not found fails it
 
 mod call;
 mod compare;
-mod face;
+mod library;
 mod random;
 mod readings;
 mod reference;

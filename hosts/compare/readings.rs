@@ -1,7 +1,7 @@
 //! Document 01's own readings ("Readings to hold it against"), each asked through calls.
 
 use crate::call::{Call, Memory, Outcome};
-use crate::face::{Answer, Sampled, View};
+use crate::library::{Answer, Sampled, View};
 
 const TOP: i64 = (1 << 62) - 1;
 const VALUE: u32 = 6;

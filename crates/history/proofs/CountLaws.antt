@@ -4,10 +4,10 @@ use mathlib.Core.Bool.{Bool, true, false, cond, not, _||_, or-false, or-true}
 use lib.IntN.{ℤ, _+ℤ_}
 use Rattle.position.specs.Position.{inRange, wordOf, positionOf}
 use Rattle.position.proofs.PositionLaws.{word-low, word-high, position-word, word-position}
-use Rattle.decode.specs.Decode.{worth}
-use Rattle.motion.specs.Count.{countedWord, countedRange, Reach}
-use Rattle.decode.specs.declared.Move.{Move}
-use Rattle.motion.proofs.CountLaws.{count-reach, moves, holds as held}
+use Rattle.axis_decode.specs.Decode.{worth}
+use Rattle.axis_motion.specs.Count.{countedWord, countedRange, Reach}
+use Rattle.axis_decode.specs.declared.Move.{Move}
+use Rattle.axis_motion.proofs.CountLaws.{count-reach, moves, holds as held}
 use Rattle.history.specs.Tally.{holds}
 
 module _ (p : ℤ) (e : inRange p ≡ true) (m : Move) where

@@ -10,22 +10,22 @@ use Rattle.reckon.specs.Widening.{widened}
 use Rattle.reckon.specs.declared.Reckoned.the-variants.{Number}
 use Rattle.axis.specs.Config.{goodConfig}
 use Rattle.axis.specs.Row.{axisOf, Words}
-use Rattle.sound.specs.Sound.{statusOf}
+use Rattle.axis_sound.specs.Sound.{statusOf}
 use Rattle.axis.specs.declared.row.Axis.{Axis}
 use Rattle.axis.specs.declared.row.Row.{Row}
-use Rattle.sound.specs.declared.Status.the-variants.{Counter}
-use Rattle.sample.specs.declared.step.SteppedRow.{SteppedRow}
-use Rattle.sample.proofs.RowLaws.{counter-stays}
+use Rattle.axis_sound.specs.declared.Status.the-variants.{Counter}
+use Rattle.axis_sample.specs.declared.step.SteppedRow.{SteppedRow}
+use Rattle.axis_sample.proofs.RowLaws.{counter-stays}
 use Rattle.record.specs.Record.{readAs}
 use Rattle.record.specs.declared.answer.Saved.{Saved}
 use Rattle.record.specs.declared.answer.Read.the-variants.{Accepted}
 use Rattle.record.proofs.RecordLaws.{accepted-within}
-use Rattle.calls.specs.Change.{changed}
-use Rattle.calls.specs.Calls.{leftBy, armRow, acknowledgeRow}
-use Rattle.counter.specs.Reading.{readRow}
-use Rattle.counter.specs.Counter.{newest, shown, rowRead, Gentle, moved}
-use Rattle.keeping.proofs.SaveLaws.{within-parts}
-use Rattle.counter.proofs.CounterLaws.{counter-follows, counter-position}
+use Rattle.row_calls.specs.Change.{changed}
+use Rattle.row_calls.specs.Calls.{leftBy, armRow, acknowledgeRow}
+use Rattle.row_counter.specs.Reading.{readRow}
+use Rattle.row_counter.specs.Counter.{newest, shown, rowRead, Gentle, moved}
+use Rattle.row_saving.proofs.SaveLaws.{within-parts}
+use Rattle.row_counter.proofs.CounterLaws.{counter-follows, counter-position}
 use Rattle.runs.specs.Op.{Look, setup, preset, arm, acknowledge, restore, changes, reading, looks, changeRow, ruleOf, rowAfter}
 use Rattle.runs.specs.Event.{Event, bits, asked, rowNext, rowSince}
 use Rattle.history.specs.Phase.{phaseOf, afterEvent, afterChange, afterCall}

@@ -6,10 +6,10 @@ use mathlib.Core.Logic.{_↔_}
 use Prim.Native.Nat.{_+_}
 use lib.Dec.{eqb}
 use Rattle.axis.specs.declared.row.Axis.{Axis}
-use Rattle.decode.specs.Decode.{entry, isE}
-use Rattle.decode.specs.declared.Move.{Move}
-use Rattle.decode.specs.declared.Move.the-variants.{Still, Forward, Back, Double}
-use Rattle.lines.specs.declared.Raw.{Raw}
+use Rattle.axis_decode.specs.Decode.{entry, isE}
+use Rattle.axis_decode.specs.declared.Move.{Move}
+use Rattle.axis_decode.specs.declared.Move.the-variants.{Still, Forward, Back, Double}
+use Rattle.axis_filter.specs.declared.Raw.{Raw}
 use Rattle.history.specs.Acts.{Act, sampled}
 use Rattle.history.specs.Levels.{primedAt}
 use Rattle.history.specs.Entries.{codeAt, entryAt, numberOfE, doubleAt}

@@ -15,24 +15,24 @@ use Rattle.reckon.specs.declared.Reckoned.the-variants.{Number, Refused as Unre
 use Rattle.reckon.proofs.NearestLaws.{nearest}
 use Rattle.axis.specs.Config.{goodConfig}
 use Rattle.axis.specs.Row.{axisOf, word1Of, word2Of, rowOf, Words}
-use Rattle.sound.specs.Sound.{statusOf}
+use Rattle.axis_sound.specs.Sound.{statusOf}
 use Rattle.axis.specs.declared.row.Axis.{Axis}
 use Rattle.axis.specs.declared.row.Row.{Row}
-use Rattle.sound.specs.declared.Status.{Status}
-use Rattle.sound.specs.declared.Status.the-variants.{Empty, Sampled, Counter, Broken}
-use Rattle.sound.proofs.SoundLaws.{counter-gives, packed-again}
-use Rattle.lines.specs.Lines.{rawOf}
-use Rattle.sample.specs.Step.{stepBy, stepRow}
+use Rattle.axis_sound.specs.declared.Status.{Status}
+use Rattle.axis_sound.specs.declared.Status.the-variants.{Empty, Sampled, Counter, Broken}
+use Rattle.axis_sound.proofs.SoundLaws.{counter-gives, packed-again}
+use Rattle.axis_filter.specs.Lines.{rawOf}
+use Rattle.axis_sample.specs.Step.{stepBy, stepRow}
 use Rattle.record.specs.Record.{readAs}
 use Rattle.record.specs.declared.answer.Read.{Read}
 use Rattle.record.specs.declared.answer.Read.the-variants.{Accepted, Refused as Unread}
 use Rattle.record.proofs.RecordLaws.{accepted-within}
-use Rattle.calls.specs.Change.{changed}
-use Rattle.counter.specs.Reading.{readAxis, readingOf, readingRow, storedRow, readRow}
-use Rattle.calls.specs.Calls.{byStatus, leftBy, configOf, setupRow, eraseRow, placeRow, presetRow, armRow, acknowledgeRow}
-use Rattle.keeping.specs.Saving.{restoredBy, restoreRow}
-use Rattle.calls.specs.declared.answer.Changed.the-variants.{To, Kept}
-use Rattle.keeping.proofs.SaveLaws.{within-parts}
+use Rattle.row_calls.specs.Change.{changed}
+use Rattle.row_counter.specs.Reading.{readAxis, readingOf, readingRow, storedRow, readRow}
+use Rattle.row_calls.specs.Calls.{byStatus, leftBy, configOf, setupRow, eraseRow, placeRow, presetRow, armRow, acknowledgeRow}
+use Rattle.row_saving.specs.Saving.{restoredBy, restoreRow}
+use Rattle.row_calls.specs.declared.answer.Changed.the-variants.{To, Kept}
+use Rattle.row_saving.proofs.SaveLaws.{within-parts}
 use Rattle.history.specs.Acts.{Act, act, sampled, Accepted as Agreed}
 use Rattle.history.specs.Acts.{preset as placed, arm as armed, acknowledge as acknowledged}
 use Rattle.history.specs.Told.{told}

@@ -7,8 +7,8 @@ use native.Mathlib.Omega.{arith}
 use borrow.Author.Tests.{eqb-true, eqb-false}
 use lib.Dec.{eqb}
 use lib.ListN.{replicate}
-use Rattle.lines.specs.declared.Line.{Line}
-use Rattle.lines.specs.Filter.{filterLine}
+use Rattle.axis_filter.specs.declared.Line.{Line}
+use Rattle.axis_filter.specs.Filter.{filterLine}
 use Rattle.history.specs.Latest.{streak, latest}
 use Rattle.history.proofs.LatestLaws.{streak-same, streak-other, streak-replicate, latest-full, latest-same, latest-pass}
 

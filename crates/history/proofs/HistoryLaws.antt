@@ -7,11 +7,11 @@ use lib.IntN.{_+ℤ_}
 use Rattle.position.specs.Position.{positionOf}
 use Rattle.position.proofs.PositionLaws.{position-word}
 use Rattle.axis.specs.declared.row.Axis.{Axis}
-use Rattle.lines.specs.Lines.{Wire, line}
-use Rattle.sample.specs.Step.{stepAxis}
-use Rattle.lines.specs.declared.Line.{Line}
-use Rattle.lines.specs.declared.Raw.{Raw}
-use Rattle.sample.specs.declared.step.Stepped.{Stepped}
+use Rattle.axis_filter.specs.Lines.{Wire, line}
+use Rattle.axis_sample.specs.Step.{stepAxis}
+use Rattle.axis_filter.specs.declared.Line.{Line}
+use Rattle.axis_filter.specs.declared.Raw.{Raw}
+use Rattle.axis_sample.specs.declared.step.Stepped.{Stepped}
 use Rattle.history.specs.Acts.{Act, after, Legal}
 use Rattle.history.specs.Start.{Start}
 use Rattle.history.specs.Levels.{primedAt, levelAt, runAt, roseAt}

@@ -9,13 +9,13 @@ use Rattle.reckon.specs.Widening.{widened}
 use Rattle.reckon.specs.declared.Reckoned.{Reckoned}
 use Rattle.reckon.specs.declared.Reckoned.the-variants.{Number, Refused as Unreckoned}
 use Rattle.axis.specs.Row.{axisOf, Words}
-use Rattle.sound.specs.Sound.{statusOf}
+use Rattle.axis_sound.specs.Sound.{statusOf}
 use Rattle.axis.specs.declared.row.Row.{Row}
-use Rattle.sound.specs.declared.Status.{Status}
-use Rattle.sound.specs.declared.Status.the-variants.{Empty, Sampled, Counter, Broken}
-use Rattle.sample.specs.After.{Configured}
-use Rattle.sample.specs.Step.{stepBy, stepRow}
-use Rattle.sample.proofs.RowLaws.{broken-stays}
+use Rattle.axis_sound.specs.declared.Status.{Status}
+use Rattle.axis_sound.specs.declared.Status.the-variants.{Empty, Sampled, Counter, Broken}
+use Rattle.axis_sample.specs.After.{Configured}
+use Rattle.axis_sample.specs.Step.{stepBy, stepRow}
+use Rattle.axis_sample.proofs.RowLaws.{broken-stays}
 use Rattle.record.specs.Record.{readAs}
 use Rattle.record.specs.declared.answer.Read.{Read}
 use Rattle.record.specs.declared.answer.Read.the-variants.{Accepted, Refused as Unread}

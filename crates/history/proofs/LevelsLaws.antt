@@ -5,10 +5,10 @@ use mathlib.Core.List.{List, [], _∷_}
 use Prim.Native.Nat.{_<_}
 use native.Mathlib.Omega.{arith}
 use Rattle.axis.specs.declared.row.Axis.{Axis}
-use Rattle.lines.specs.Lines.{Wire, A, B, Z, placeOf, levelOf, line}
-use Rattle.lines.specs.Filter.{filtered}
-use Rattle.lines.specs.declared.Line.{Line}
-use Rattle.lines.specs.declared.Raw.{Raw}
+use Rattle.axis_filter.specs.Lines.{Wire, A, B, Z, placeOf, levelOf, line}
+use Rattle.axis_filter.specs.Filter.{filtered}
+use Rattle.axis_filter.specs.declared.Line.{Line}
+use Rattle.axis_filter.specs.declared.Raw.{Raw}
 use Rattle.history.specs.Acts.{Act, sampled}
 use Rattle.history.specs.Start.{Start}
 use Rattle.history.specs.Latest.{streak, latest}

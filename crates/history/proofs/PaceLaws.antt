@@ -7,9 +7,9 @@ use native.Mathlib.Omega.{arith}
 use borrow.Author.Tests.{le-ltb, ltb-true, ltb-false}
 use lib.Dec.{eqb, ltb}
 use Rattle.axis.specs.declared.row.Axis.{Axis}
-use Rattle.motion.specs.Pace.{older, pacedDirection, pacedAge, stepPeriod, pacedPeriod}
-use Rattle.decode.specs.declared.Move.{Move}
-use Rattle.decode.specs.declared.Move.the-variants.{Still, Forward, Back, Double}
+use Rattle.axis_motion.specs.Pace.{older, pacedDirection, pacedAge, stepPeriod, pacedPeriod}
+use Rattle.axis_decode.specs.declared.Move.{Move}
+use Rattle.axis_decode.specs.declared.Move.the-variants.{Still, Forward, Back, Double}
 use Rattle.history.specs.Pace.{directionOf, gapOf, ageOf, spanOf, periodOf}
 
 module _ (x : Axis) (ms : List Move) where

@@ -4,18 +4,18 @@ use lib.IntN.{ℤ}
 use Rattle.position.specs.Position.{wordOf}
 use Rattle.position.proofs.PositionLaws.{word-low, word-high}
 use Rattle.axis.specs.Row.{axisOf, rowOf, emptyRow, Words}
-use Rattle.sound.specs.Sound.{statusOf, CounterAxis}
+use Rattle.axis_sound.specs.Sound.{statusOf, CounterAxis}
 use Rattle.axis.specs.declared.row.Axis.{Axis}
 use Rattle.axis.specs.declared.row.Row.{Row}
-use Rattle.sound.specs.declared.Status.{Status}
-use Rattle.sound.specs.declared.Status.the-variants.{Empty, Sampled, Counter, Broken}
-use Rattle.sound.proofs.SoundLaws.{sampled-gives, counter-gives}
-use Rattle.sample.specs.After.{Configured}
-use Rattle.calls.specs.Change.{changed, presetAxis, Holds}
-use Rattle.counter.specs.Reading.{readAxis}
-use Rattle.calls.proofs.ChangeLaws.{sampled-holds, counter-holds}
-use Rattle.counter.proofs.ReadingLaws.{read-at, read-kept}
-use Rattle.calls.proofs.SetupLaws.{config-holds, erase-makes}
+use Rattle.axis_sound.specs.declared.Status.{Status}
+use Rattle.axis_sound.specs.declared.Status.the-variants.{Empty, Sampled, Counter, Broken}
+use Rattle.axis_sound.proofs.SoundLaws.{sampled-gives, counter-gives}
+use Rattle.axis_sample.specs.After.{Configured}
+use Rattle.row_calls.specs.Change.{changed, presetAxis, Holds}
+use Rattle.row_counter.specs.Reading.{readAxis}
+use Rattle.row_calls.proofs.ChangeLaws.{sampled-holds, counter-holds}
+use Rattle.row_counter.proofs.ReadingLaws.{read-at, read-kept}
+use Rattle.row_calls.proofs.SetupLaws.{config-holds, erase-makes}
 use Rattle.history.specs.Told.{told}
 use Rattle.history.specs.Phase.{Phase, toldBy, toldRow}
 use Rattle.history.specs.Lawful.{Beginning, given, erased, made, Lawful}

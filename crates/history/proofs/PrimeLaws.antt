@@ -4,9 +4,9 @@ use mathlib.Core.Bool.{true, false, and-true, and-false, or-false}
 use mathlib.Core.List.{List, [], _∷_}
 use Rattle.position.specs.Position.{wordOf}
 use Rattle.axis.specs.declared.row.Axis.{Axis}
-use Rattle.lines.specs.Lines.{A, B, Z, levelOf}
-use Rattle.sample.specs.Step.{primedBy, outcome}
-use Rattle.lines.specs.declared.Raw.{Raw}
+use Rattle.axis_filter.specs.Lines.{A, B, Z, levelOf}
+use Rattle.axis_sample.specs.Step.{primedBy, outcome}
+use Rattle.axis_filter.specs.declared.Raw.{Raw}
 use Rattle.history.specs.Acts.{Act, sampled}
 use Rattle.history.specs.Levels.{primedAt, roseAt}
 use Rattle.history.specs.Entries.{entries}

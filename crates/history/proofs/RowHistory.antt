@@ -3,16 +3,16 @@ use mathlib.Core.Path.{_≡_, refl, _∙_, ap}
 use mathlib.Core.List.{List, [], _∷_, _++_}
 use Prim.Native.Nat.{ℕ}
 use Rattle.axis.specs.Row.{axisOf, Words}
-use Rattle.sound.specs.Sound.{statusOf}
+use Rattle.axis_sound.specs.Sound.{statusOf}
 use Rattle.axis.specs.declared.row.Axis.{Axis}
 use Rattle.axis.specs.declared.row.Row.{Row}
-use Rattle.sound.specs.declared.Status.{Status}
-use Rattle.sound.specs.declared.Status.the-variants.{Empty, Sampled, Counter, Broken}
-use Rattle.lines.specs.Lines.{rawOf}
-use Rattle.sample.specs.Step.{stepAxis, packed, stepBy, stepRow}
-use Rattle.sample.specs.declared.step.Stepped.{Stepped}
-use Rattle.calls.specs.Change.{Holds}
-use Rattle.counter.specs.Reading.{readAxis}
+use Rattle.axis_sound.specs.declared.Status.{Status}
+use Rattle.axis_sound.specs.declared.Status.the-variants.{Empty, Sampled, Counter, Broken}
+use Rattle.axis_filter.specs.Lines.{rawOf}
+use Rattle.axis_sample.specs.Step.{stepAxis, packed, stepBy, stepRow}
+use Rattle.axis_sample.specs.declared.step.Stepped.{Stepped}
+use Rattle.row_calls.specs.Change.{Holds}
+use Rattle.row_counter.specs.Reading.{readAxis}
 use Rattle.runs.specs.Told.{Marks, marks, marksOf}
 use Rattle.runs.specs.Op.{answerOf}
 use Rattle.runs.specs.Event.{Event, bits, asked, rowNext, rowSince, toldOf}

@@ -6,12 +6,12 @@ use Prim.Native.Nat.{ℕ, _+_, min}
 use lib.IntN.{_+ℤ_}
 use Rattle.position.specs.Position.{positionOf}
 use Rattle.axis.specs.Row.{axisOf, Words}
-use Rattle.sound.specs.Sound.{statusOf}
+use Rattle.axis_sound.specs.Sound.{statusOf}
 use Rattle.axis.specs.declared.row.Axis.{Axis}
 use Rattle.axis.specs.declared.row.Row.{Row}
-use Rattle.sound.specs.declared.Status.the-variants.{Sampled}
-use Rattle.lines.specs.Lines.{Wire, rawOf, line}
-use Rattle.sample.specs.Step.{stepRow}
+use Rattle.axis_sound.specs.declared.Status.the-variants.{Sampled}
+use Rattle.axis_filter.specs.Lines.{Wire, rawOf, line}
+use Rattle.axis_sample.specs.Step.{stepRow}
 use Rattle.history.specs.Acts.{after, Legal}
 use Rattle.history.specs.Start.{Start}
 use Rattle.history.specs.Levels.{levelAt, roseAt}

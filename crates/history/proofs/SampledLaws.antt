@@ -1,10 +1,10 @@
 -- A sampled axis stays one through a history: document 01, "One row, four words".
 use mathlib.Core.Path.{subst}
 use mathlib.Core.List.{List, [], _∷_}
-use Rattle.sound.specs.Sound.{SampledAxis}
+use Rattle.axis_sound.specs.Sound.{SampledAxis}
 use Rattle.axis.specs.declared.row.Axis.{Axis}
-use Rattle.sample.proofs.KeepLaws.{keep-step}
-use Rattle.calls.proofs.ChangeLaws.{preset-sampled, arm-sampled, acknowledge-sampled}
+use Rattle.axis_sample.proofs.KeepLaws.{keep-step}
+use Rattle.row_calls.proofs.ChangeLaws.{preset-sampled, arm-sampled, acknowledge-sampled}
 use Rattle.history.specs.Acts.{Act, sampled, preset, arm, acknowledge, act, after, Accepted, Legal}
 use Rattle.history.specs.Told.{told}
 use Rattle.history.proofs.ToldLaws.{whole-history}

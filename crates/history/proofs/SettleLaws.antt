@@ -4,15 +4,15 @@ use mathlib.Core.Bool.{true, _&&_}
 use mathlib.Core.List.{List, [], _∷_}
 use Rattle.position.specs.Position.{inRange, wordOf, positionOf}
 use Rattle.axis.specs.declared.row.Axis.{Axis}
-use Rattle.lines.specs.Lines.{Wire, A, B, Z, placeOf, line}
-use Rattle.lines.specs.Filter.{filtered}
-use Rattle.decode.specs.Decode.{moveTo, entry, isE}
-use Rattle.motion.specs.Index.{rises}
-use Rattle.motion.specs.Count.{countedWord}
-use Rattle.sample.specs.Step.{settle, outcome}
-use Rattle.decode.specs.declared.Move.{Move}
-use Rattle.lines.specs.declared.Line.{Line}
-use Rattle.lines.specs.declared.Raw.{Raw}
+use Rattle.axis_filter.specs.Lines.{Wire, A, B, Z, placeOf, line}
+use Rattle.axis_filter.specs.Filter.{filtered}
+use Rattle.axis_decode.specs.Decode.{moveTo, entry, isE}
+use Rattle.axis_motion.specs.Index.{rises}
+use Rattle.axis_motion.specs.Count.{countedWord}
+use Rattle.axis_sample.specs.Step.{settle, outcome}
+use Rattle.axis_decode.specs.declared.Move.{Move}
+use Rattle.axis_filter.specs.declared.Line.{Line}
+use Rattle.axis_filter.specs.declared.Raw.{Raw}
 use Rattle.history.specs.Acts.{Act, sampled}
 use Rattle.history.specs.Start.{Start}
 use Rattle.history.specs.Levels.{primedAt, levelAt, runAt, roseAt}

@@ -8,13 +8,13 @@ use lib.IntN.{ℤ}
 use Rattle.position.specs.Position.{inRange, wordOf}
 use Rattle.position.proofs.PositionLaws.{word-low, word-high}
 use Rattle.axis.specs.Row.{axisOf, freshAt}
-use Rattle.sound.specs.Sound.{statusOf, SampledAxis}
+use Rattle.axis_sound.specs.Sound.{statusOf, SampledAxis}
 use Rattle.axis.specs.declared.config.Config.{Config}
 use Rattle.axis.specs.declared.row.Axis.{Axis}
 use Rattle.axis.specs.declared.row.Row.{Row}
-use Rattle.sound.specs.declared.Status.the-variants.{Sampled}
-use Rattle.sound.proofs.SoundLaws.{sampled-gives}
-use Rattle.lines.specs.Lines.{Wire, A, B, Z, placeOf, line}
+use Rattle.axis_sound.specs.declared.Status.the-variants.{Sampled}
+use Rattle.axis_sound.proofs.SoundLaws.{sampled-gives}
+use Rattle.axis_filter.specs.Lines.{Wire, A, B, Z, placeOf, line}
 use Rattle.history.specs.Acts.{Act, act, after, Legal}
 use Rattle.history.specs.Start.{Start}
 use Rattle.history.specs.Tally.{positionAt}

@@ -9,12 +9,12 @@ use lib.ListN.{getD, length}
 use Rattle.position.specs.Position.{inRange}
 use Rattle.position.proofs.PositionLaws.{position-in-range, word-position}
 use Rattle.axis.specs.declared.row.Axis.{Axis}
-use Rattle.lines.specs.Lines.{A, B, Z, placeOf, line}
-use Rattle.sample.specs.Step.{outcome, stepAxis}
-use Rattle.lines.specs.declared.Raw.{Raw}
-use Rattle.sample.specs.declared.step.Stepped.{Stepped}
+use Rattle.axis_filter.specs.Lines.{A, B, Z, placeOf, line}
+use Rattle.axis_sample.specs.Step.{outcome, stepAxis}
+use Rattle.axis_filter.specs.declared.Raw.{Raw}
+use Rattle.axis_sample.specs.declared.step.Stepped.{Stepped}
 use Rattle.history.specs.Acts.{Act, sampled, preset, arm, acknowledge, act, after, Legal}
-use Rattle.calls.specs.Change.{changed}
+use Rattle.row_calls.specs.Change.{changed}
 use Rattle.history.specs.Start.{Start}
 use Rattle.history.specs.Levels.{primedAt, since, levelAt, runAt}
 use Rattle.history.specs.Entries.{entryAt, entries, numberOfE}

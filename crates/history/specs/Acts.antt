@@ -6,9 +6,9 @@ use mathlib.Core.List.{List, [], _∷_}
 use lib.IntN.{ℤ}
 use Rattle.position.specs.Position.{inRange}
 use Rattle.axis.specs.declared.row.Axis.{Axis}
-use Rattle.sample.specs.Step.{stepAxis}
-use Rattle.calls.specs.Change.{presetAxis, armAxis, acknowledgeAxis}
-use Rattle.lines.specs.declared.Raw.{Raw}
+use Rattle.axis_sample.specs.Step.{stepAxis}
+use Rattle.row_calls.specs.Change.{presetAxis, armAxis, acknowledgeAxis}
+use Rattle.axis_filter.specs.declared.Raw.{Raw}
 
 -- A sample, or a call that leaves the configuration alone.
 pub data Act : Type 0 where

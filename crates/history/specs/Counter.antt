@@ -4,9 +4,9 @@ use mathlib.Core.Path.{_≡_}
 use mathlib.Core.List.{List, [], _∷_}
 use lib.IntN.{ℤ}
 use Rattle.axis.specs.declared.row.Row.{Row}
-use Rattle.sound.specs.Sound.{statusOf}
-use Rattle.sound.specs.declared.Status.the-variants.{Counter}
-use Rattle.counter.specs.Counter.{shown}
+use Rattle.axis_sound.specs.Sound.{statusOf}
+use Rattle.axis_sound.specs.declared.Status.the-variants.{Counter}
+use Rattle.row_counter.specs.Counter.{shown}
 use Rattle.runs.specs.Op.{reading}
 use Rattle.runs.specs.Event.{Event, asked, rowNext}
 

@@ -4,10 +4,10 @@ use mathlib.Core.Bool.{Bool, cond}
 use mathlib.Core.List.{List, [], _∷_, _++_}
 use lib.Dec.{eqb}
 use Rattle.axis.specs.declared.row.Axis.{Axis}
-use Rattle.lines.specs.Lines.{A, B}
-use Rattle.decode.specs.Decode.{code, entry, isE}
-use Rattle.decode.specs.declared.Move.{Move}
-use Rattle.lines.specs.declared.Raw.{Raw}
+use Rattle.axis_filter.specs.Lines.{A, B}
+use Rattle.axis_decode.specs.Decode.{code, entry, isE}
+use Rattle.axis_decode.specs.declared.Move.{Move}
+use Rattle.axis_filter.specs.declared.Raw.{Raw}
 use Rattle.history.specs.Acts.{Act, sampled, preset, arm, acknowledge}
 use Rattle.history.specs.Levels.{primedAt, levelAt}
 

@@ -2,7 +2,7 @@
 use mathlib.Core.Bool.{Bool, true, false, not, _&&_, _||_}
 use mathlib.Core.List.{List, [], _∷_}
 use Rattle.axis.specs.declared.row.Axis.{Axis}
-use Rattle.lines.specs.declared.Raw.{Raw}
+use Rattle.axis_filter.specs.declared.Raw.{Raw}
 use Rattle.history.specs.Acts.{Act, sampled, preset, arm, acknowledge}
 use Rattle.history.specs.Levels.{roseAt}
 

@@ -5,10 +5,10 @@ use lib.IntN.{ℤ}
 use Rattle.position.specs.Position.{inRange, wordOf}
 use Rattle.axis.specs.Config.{goodConfig}
 use Rattle.axis.specs.Row.{rowOf, emptyRow, freshAt}
-use Rattle.sound.specs.Sound.{statusOf}
+use Rattle.axis_sound.specs.Sound.{statusOf}
 use Rattle.axis.specs.declared.config.Config.{Config}
 use Rattle.axis.specs.declared.row.Row.{Row}
-use Rattle.sound.specs.declared.Status.the-variants.{Counter}
+use Rattle.axis_sound.specs.declared.Status.the-variants.{Counter}
 use Rattle.history.specs.Acts.{Legal}
 use Rattle.history.specs.Phase.{Phase}
 

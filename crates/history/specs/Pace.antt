@@ -4,8 +4,8 @@ use mathlib.Core.Bool.{cond, _&&_}
 use mathlib.Core.List.{List, [], _∷_}
 use lib.Dec.{eqb, ltb}
 use Rattle.axis.specs.declared.row.Axis.{Axis}
-use Rattle.decode.specs.declared.Move.{Move}
-use Rattle.decode.specs.declared.Move.the-variants.{Still, Forward, Back, Double}
+use Rattle.axis_decode.specs.declared.Move.{Move}
+use Rattle.axis_decode.specs.declared.Move.the-variants.{Still, Forward, Back, Double}
 
 -- Direction: 1, 2 or 0 as the latest entry off zero is +, - or E; the starting axis's if there was none.
 unfoldable pub directionOf : Axis → List Move → ℕ

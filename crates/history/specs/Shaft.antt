@@ -8,7 +8,7 @@ use lib.IntN.{ℤ, natAbs, _-ℤ_}
 use Rattle.integers.specs.Integer.{modZ}
 use Rattle.fields.specs.Field.{flagOf}
 use Rattle.axis.specs.declared.row.Axis.{Axis}
-use Rattle.lines.specs.declared.Raw.{Raw}
+use Rattle.axis_filter.specs.declared.Raw.{Raw}
 use Rattle.history.specs.Acts.{Act, sampled}
 use Rattle.history.specs.Entries.{doubleAt}
 use Rattle.history.specs.Homing.{homesAt}

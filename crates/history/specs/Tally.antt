@@ -5,8 +5,8 @@ use mathlib.Core.List.{List, [], _∷_, _++_}
 use lib.IntN.{ℤ, pos, _+ℤ_}
 use Rattle.position.specs.Position.{inRange, positionOf}
 use Rattle.axis.specs.declared.row.Axis.{Axis}
-use Rattle.decode.specs.Decode.{worth}
-use Rattle.decode.specs.declared.Move.{Move}
+use Rattle.axis_decode.specs.Decode.{worth}
+use Rattle.axis_decode.specs.declared.Move.{Move}
 use Rattle.history.specs.Acts.{Act, sampled, preset, arm, acknowledge}
 use Rattle.history.specs.Entries.{entryAt, numberOfE}
 use Rattle.history.specs.Homing.{homesAt}

@@ -2,9 +2,9 @@
 use mathlib.Core.List.{List, [], _∷_}
 use Rattle.position.specs.Position.{wordOf}
 use Rattle.axis.specs.declared.row.Axis.{Axis}
-use Rattle.lines.specs.Lines.{A, B, Z}
-use Rattle.lines.specs.declared.Raw.{Raw}
-use Rattle.sample.specs.declared.step.Stepped.{Stepped}
+use Rattle.axis_filter.specs.Lines.{A, B, Z}
+use Rattle.axis_filter.specs.declared.Raw.{Raw}
+use Rattle.axis_sample.specs.declared.step.Stepped.{Stepped}
 use Rattle.history.specs.Acts.{Act, sampled}
 use Rattle.history.specs.Levels.{primedAt, levelAt, runAt, roseAt}
 use Rattle.history.specs.Entries.{entries, doubleAt}

@@ -3,7 +3,7 @@ use mathlib.Core.Path.{_≡_, sym, _∙_}
 use mathlib.Core.List.{List}
 use Prim.Native.Nat.{ℕ, _<_}
 use lib.ListN.{length}
-use Rattle.rows.specs.Table.{axesIn, rowAt}
+use Rattle.table_rows.specs.Table.{axesIn, rowAt}
 use Rattle.runs.specs.Run.{Call, tableRun, heard, rows}
 use Rattle.promises.specs.Own.{events}
 use Rattle.promises.proofs.RunLaws.{alone}

@@ -7,9 +7,9 @@ use lib.IntN.{_+ℤ_}
 use lib.ListN.{length}
 use Rattle.position.specs.Position.{positionOf}
 use Rattle.axis.specs.Row.{axisOf}
-use Rattle.sound.specs.Sound.{statusOf}
+use Rattle.axis_sound.specs.Sound.{statusOf}
 use Rattle.axis.specs.declared.row.Row.{Row}
-use Rattle.sound.specs.declared.Status.the-variants.{Sampled, Counter}
+use Rattle.axis_sound.specs.declared.Status.the-variants.{Sampled, Counter}
 use Rattle.runs.specs.Event.{Event, rowSince}
 use Rattle.runs.specs.Run.{Call, tableRun}
 use Rattle.history.specs.Phase.{phaseOf, toldRow, startAxis, actsSince}
@@ -18,8 +18,8 @@ use Rattle.history.specs.Tally.{Tally, Place, placeTally, doublesTally, sum}
 use Rattle.history.proofs.RowHistory.{row-history}
 use Rattle.history.proofs.SampledHistory.{position-row, doubles-row}
 use Rattle.history.proofs.CounterHistory.{position-counter}
-use Rattle.rows.specs.Table.{axesIn, rowAt, AllWords}
-use Rattle.rows.proofs.TableLaws.{row-words}
+use Rattle.table_rows.specs.Table.{axesIn, rowAt, AllWords}
+use Rattle.table_rows.proofs.TableLaws.{row-words}
 use Rattle.promises.specs.Own.{events, rowRun}
 use Rattle.promises.proofs.RunLaws.{alone}
 

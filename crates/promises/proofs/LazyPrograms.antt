@@ -8,16 +8,16 @@ use Prim.Native.Nat.{ℕ, _<_}
 use lib.ListN.{length}
 use Rattle.refusal.specs.declared.Refusal.{Refusal}
 use Rattle.axis.specs.Row.{axisOf}
-use Rattle.sound.specs.Sound.{statusOf}
+use Rattle.axis_sound.specs.Sound.{statusOf}
 use Rattle.axis.specs.declared.row.Row.{Row}
-use Rattle.sound.specs.declared.Status.the-variants.{Sampled}
-use Rattle.lines.specs.Lines.{rawOf}
-use Rattle.sample.proofs.RowLaws.{axis-after}
-use Rattle.sample.proofs.StepLaws.{priming}
-use Rattle.rows.specs.Table.{axesIn, rowAt}
-use Rattle.port.specs.Port.{nibble, sampledTable, sampledAnswer}
-use Rattle.port.specs.declared.Sampled.the-variants.{Refused}
-use Rattle.port.proofs.PortLaws.{sample-row, sample-refused}
+use Rattle.axis_sound.specs.declared.Status.the-variants.{Sampled}
+use Rattle.axis_filter.specs.Lines.{rawOf}
+use Rattle.axis_sample.proofs.RowLaws.{axis-after}
+use Rattle.axis_sample.proofs.StepLaws.{priming}
+use Rattle.table_rows.specs.Table.{axesIn, rowAt}
+use Rattle.table_port.specs.Port.{nibble, sampledTable, sampledAnswer}
+use Rattle.table_port.specs.declared.Sampled.the-variants.{Refused}
+use Rattle.table_port.proofs.PortLaws.{sample-row, sample-refused}
 use Rattle.runs.specs.Run.{Call, port, tableNext, tableRun}
 
 -- Refusing everything: a table of a legal length is sampled, never refused.

@@ -10,11 +10,11 @@ use Rattle.record.specs.Record.{readAs}
 use Rattle.record.specs.declared.answer.Saved.{Saved}
 use Rattle.record.specs.declared.answer.Read.the-variants.{Accepted}
 use Rattle.record.specs.declared.answer.Written.the-variants.{Bytes}
-use Rattle.calls.specs.Calls.{setupRow, presetRow, andThen}
-use Rattle.keeping.specs.Saving.{restoreRow, saveRow, savedIn, savedOf}
-use Rattle.calls.specs.declared.answer.Changed.the-variants.{To}
-use Rattle.keeping.proofs.SaveLaws.{restore-is, restored-save, saved-restore}
-use Rattle.rows.specs.Table.{axesIn, rowAt}
+use Rattle.row_calls.specs.Calls.{setupRow, presetRow, andThen}
+use Rattle.row_saving.specs.Saving.{restoreRow, saveRow, savedIn, savedOf}
+use Rattle.row_calls.specs.declared.answer.Changed.the-variants.{To}
+use Rattle.row_saving.proofs.SaveLaws.{restore-is, restored-save, saved-restore}
+use Rattle.table_rows.specs.Table.{axesIn, rowAt}
 use Rattle.table.specs.Call.{ruled, tableAfter}
 use Rattle.runs.proofs.CallLaws.{ruled-is, by-rule}
 

@@ -8,12 +8,12 @@ use borrow.Author.Tests.{eqb-true, eqb-false}
 use lib.Dec.{eqb}
 use lib.ListN.{length, replicate, length-replicate}
 use Rattle.axis.specs.declared.row.Row.{Row}
-use Rattle.sample.specs.Step.{stepRow}
-use Rattle.rows.specs.Table.{axesIn, rowAt}
-use Rattle.port.specs.Port.{nibble, sampledAnswer}
-use Rattle.port.specs.declared.Sampled.{Sampled}
-use Rattle.port.specs.declared.Sampled.the-variants.{Seen, Refused as Unsampled}
-use Rattle.port.proofs.PortLaws.{sample-row, sample-bits, sample-refused}
+use Rattle.axis_sample.specs.Step.{stepRow}
+use Rattle.table_rows.specs.Table.{axesIn, rowAt}
+use Rattle.table_port.specs.Port.{nibble, sampledAnswer}
+use Rattle.table_port.specs.declared.Sampled.{Sampled}
+use Rattle.table_port.specs.declared.Sampled.the-variants.{Seen, Refused as Unsampled}
+use Rattle.table_port.proofs.PortLaws.{sample-row, sample-bits, sample-refused}
 use Rattle.runs.specs.Told.{Told, marks, marksOf}
 use Rattle.runs.specs.Op.{Look, Op, view, speed, save, changes, reading, looks, lookRow, ruleOf, answerOf, rowAfter}
 use Rattle.runs.specs.Event.{Event, asked, rowNext, toldOf}

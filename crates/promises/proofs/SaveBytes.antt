@@ -9,15 +9,15 @@ use lib.ListN.{length, take, drop}
 use lib.Seq.{take-at}
 use Rattle.integers.proofs.Balance.{Tested, yes, no, test}
 use Rattle.refusal.specs.declared.Refusal.the-variants.{Value, Room}
-use Rattle.sound.specs.Sound.{statusOf}
+use Rattle.axis_sound.specs.Sound.{statusOf}
 use Rattle.axis.specs.Row.{axisOf}
 use Rattle.axis.specs.declared.row.Row.{Row}
-use Rattle.sound.specs.declared.Status.{Status}
-use Rattle.sound.specs.declared.Status.the-variants.{Empty, Sampled, Counter, Broken}
+use Rattle.axis_sound.specs.declared.Status.{Status}
+use Rattle.axis_sound.specs.declared.Status.the-variants.{Empty, Sampled, Counter, Broken}
 use Rattle.record.specs.Record.{within, recordOf, savedAs, written}
 use Rattle.record.specs.declared.answer.Saved.{Saved}
 use Rattle.record.proofs.RecordLaws.{saved-front}
-use Rattle.keeping.specs.Saving.{savedOf, saveRow, savedIn}
+use Rattle.row_saving.specs.Saving.{savedOf, saveRow, savedIn}
 use Rattle.runs.specs.Told.{Told, refused, wrote, toldBytes}
 
 -- Of what a record says: the bytes written are the record, where it fits.

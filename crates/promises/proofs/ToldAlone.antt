@@ -5,8 +5,8 @@ use Prim.Native.Nat.{ℕ, _<_}
 use lib.ListN.{length}
 use Rattle.axis.specs.Row.{Words}
 use Rattle.axis.specs.declared.row.Row.{Row}
-use Rattle.rows.specs.Table.{axesIn, rowAt, AllWords}
-use Rattle.rows.proofs.TableLaws.{row-words}
+use Rattle.table_rows.specs.Table.{axesIn, rowAt, AllWords}
+use Rattle.table_rows.proofs.TableLaws.{row-words}
 use Rattle.runs.specs.Told.{Told}
 use Rattle.runs.specs.Event.{Event, rowSince}
 use Rattle.runs.specs.Run.{Call, heard}

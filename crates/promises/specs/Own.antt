@@ -5,7 +5,7 @@ use mathlib.Core.List.{List, [], _∷_, _++_}
 use lib.Dec.{eqb}
 use lib.ListN.{length, replicate}
 use Rattle.axis.specs.declared.row.Row.{Row}
-use Rattle.port.specs.Port.{nibble}
+use Rattle.table_port.specs.Port.{nibble}
 use Rattle.runs.specs.Told.{Told}
 use Rattle.runs.specs.Op.{Look, Op, view, speed, save, changes, reading, looks}
 use Rattle.runs.specs.Event.{Event, bits, asked, rowNext, toldOf}

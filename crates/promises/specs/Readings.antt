@@ -13,7 +13,7 @@ use Rattle.fields.specs.Field.{fieldOf, flagOf}
 use Rattle.axis.specs.Kind.{X1, X2, X4}
 use Rattle.axis.specs.Row.{rowOf, fresh}
 use Rattle.axis.specs.declared.row.Row.{Row}
-use Rattle.sample.specs.Step.{stepRow}
+use Rattle.axis_sample.specs.Step.{stepRow}
 
 -- The row that a setup of a kind and a depth makes.
 unfoldable pub setUp : ℕ → ℕ → Row

@@ -2,7 +2,6 @@
 mod say; // say.rt: answers as text
 
 use axis::kind::Kind;
-use port::sample;
 use reckon::speed::by_count;
 use reckon::widening::widen;
 use table::change::preset;
@@ -11,6 +10,7 @@ use table::look::view;
 use table::reading::reading;
 use table::saving::save;
 use table::setup::setup;
+use table_port::sample;
 
 // A narrow counter's reading past its width, in a table and without one.
 fn narrow() {

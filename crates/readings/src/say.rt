@@ -1,10 +1,10 @@
 // Answers as text on standard output.
-use calls::answer::Done;
-use calls::answer::Viewed;
 use libc::STDOUT_FILENO;
 use reckon::Reckoned;
 use record::answer::Written;
 use refusal::Refusal;
+use row_calls::answer::Done;
+use row_calls::answer::Viewed;
 use text::put::size;
 
 fn text(bytes: &[u8]) {

@@ -10,20 +10,20 @@ use lib.Dec.{eqb}
 use lib.ListN.{length}
 use Rattle.refusal.specs.declared.Refusal.{Refusal}
 use Rattle.axis.specs.declared.row.Row.{Row}
-use Rattle.calls.specs.Answer.{doneOf}
-use Rattle.calls.specs.Calls.{leftBy}
-use Rattle.counter.specs.Reading.{readingRow, storedRow, readRow}
+use Rattle.row_calls.specs.Answer.{doneOf}
+use Rattle.row_calls.specs.Calls.{leftBy}
+use Rattle.row_counter.specs.Reading.{readingRow, storedRow, readRow}
 use Rattle.reckon.specs.declared.Reckoned.{Reckoned}
 use Rattle.reckon.specs.declared.Reckoned.the-variants.{Number, Refused as Unreckoned}
-use Rattle.calls.specs.declared.answer.Changed.{Changed}
-use Rattle.calls.specs.declared.answer.Changed.the-variants.{To, Kept}
-use Rattle.rows.specs.Table.{axesIn, rowAt, setRow}
-use Rattle.rows.specs.Located.{located, onFound}
-use Rattle.rows.specs.declared.Located.{Located}
-use Rattle.rows.specs.declared.Located.the-variants.{At, Refused}
-use Rattle.rows.proofs.TableLaws.{axes-fit, axes-only, length-setRow, row-same, row-other, table-ext}
-use Rattle.rows.proofs.LocatedLaws.{found-at, found}
-use Rattle.port.proofs.PortLaws.{sample-length}
+use Rattle.row_calls.specs.declared.answer.Changed.{Changed}
+use Rattle.row_calls.specs.declared.answer.Changed.the-variants.{To, Kept}
+use Rattle.table_rows.specs.Table.{axesIn, rowAt, setRow}
+use Rattle.table_rows.specs.Located.{located, onFound}
+use Rattle.table_rows.specs.declared.Located.{Located}
+use Rattle.table_rows.specs.declared.Located.the-variants.{At, Refused}
+use Rattle.table_rows.proofs.TableLaws.{axes-fit, axes-only, length-setRow, row-same, row-other, table-ext}
+use Rattle.table_rows.proofs.LocatedLaws.{found-at, found}
+use Rattle.table_port.proofs.PortLaws.{sample-length}
 use Rattle.table.specs.Call.{ruled, tableAfter}
 use Rattle.table.proofs.CallLaws.{makes-spares}
 use Rattle.runs.specs.Told.{refused, toldDone, toldNumber}

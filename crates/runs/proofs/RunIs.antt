@@ -12,22 +12,22 @@ use Rattle.reckon.specs.declared.Reckoned.the-variants.{Number, Refused as Unre
 use Rattle.axis.specs.declared.row.Row.{Row}
 use Rattle.record.specs.declared.answer.Written.{Written}
 use Rattle.record.specs.declared.answer.Written.the-variants.{Refused as Unwritten}
-use Rattle.calls.specs.Answer.{doneOf}
-use Rattle.calls.specs.Calls.{setupRow, eraseRow, presetRow, armRow, acknowledgeRow, viewRow}
-use Rattle.keeping.specs.Saving.{saveRow, savedIn, restoreRow}
-use Rattle.speed.specs.Speed.{speedRow}
-use Rattle.counter.specs.Reading.{readingRow}
-use Rattle.calls.specs.declared.answer.Changed.{Changed}
-use Rattle.calls.specs.declared.answer.Changed.the-variants.{Kept}
-use Rattle.calls.specs.declared.answer.Done.{Done}
-use Rattle.calls.specs.declared.answer.Done.the-variants.{Yes, Refused as Undone}
-use Rattle.calls.specs.declared.answer.Viewed.{Viewed}
-use Rattle.calls.specs.declared.answer.Viewed.the-variants.{Shows, Refused as Unseen}
-use Rattle.rows.specs.Located.{located, onFound}
-use Rattle.rows.specs.declared.Located.{Located}
-use Rattle.rows.specs.declared.Located.the-variants.{At, Refused}
-use Rattle.port.specs.Port.{Samples}
-use Rattle.port.specs.declared.Sampled.{Sampled}
+use Rattle.row_calls.specs.Answer.{doneOf}
+use Rattle.row_calls.specs.Calls.{setupRow, eraseRow, presetRow, armRow, acknowledgeRow, viewRow}
+use Rattle.row_saving.specs.Saving.{saveRow, savedIn, restoreRow}
+use Rattle.row_speed.specs.Speed.{speedRow}
+use Rattle.row_counter.specs.Reading.{readingRow}
+use Rattle.row_calls.specs.declared.answer.Changed.{Changed}
+use Rattle.row_calls.specs.declared.answer.Changed.the-variants.{Kept}
+use Rattle.row_calls.specs.declared.answer.Done.{Done}
+use Rattle.row_calls.specs.declared.answer.Done.the-variants.{Yes, Refused as Undone}
+use Rattle.row_calls.specs.declared.answer.Viewed.{Viewed}
+use Rattle.row_calls.specs.declared.answer.Viewed.the-variants.{Shows, Refused as Unseen}
+use Rattle.table_rows.specs.Located.{located, onFound}
+use Rattle.table_rows.specs.declared.Located.{Located}
+use Rattle.table_rows.specs.declared.Located.the-variants.{At, Refused}
+use Rattle.table_port.specs.Port.{Samples}
+use Rattle.table_port.specs.declared.Sampled.{Sampled}
 use Rattle.table.specs.Call.{Makes, viewedIn, Reads, speedIn, Saves}
 use Rattle.runs.specs.Told.{Told, refused, toldDone, toldView, toldNumber, toldBytes}
 use Rattle.runs.specs.Op.{Change, setup, erase, preset, arm, acknowledge, restore, view, speed, save, changes, reading, looks, changeRow, lookRow, ruleOf, answerOf}

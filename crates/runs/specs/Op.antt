@@ -7,13 +7,13 @@ use lib.IntN.{ℤ}
 use lib.ListN.{length}
 use Rattle.refusal.specs.declared.Refusal.{Refusal}
 use Rattle.axis.specs.declared.row.Row.{Row}
-use Rattle.calls.specs.Answer.{doneOf}
-use Rattle.calls.specs.Calls.{leftBy, setupRow, eraseRow, presetRow, armRow, acknowledgeRow, viewRow}
-use Rattle.keeping.specs.Saving.{saveRow, savedIn, restoreRow}
-use Rattle.speed.specs.Speed.{speedRow}
-use Rattle.counter.specs.Reading.{readingRow, readRow}
-use Rattle.calls.specs.declared.answer.Changed.{Changed}
-use Rattle.calls.specs.declared.answer.Changed.the-variants.{To}
+use Rattle.row_calls.specs.Answer.{doneOf}
+use Rattle.row_calls.specs.Calls.{leftBy, setupRow, eraseRow, presetRow, armRow, acknowledgeRow, viewRow}
+use Rattle.row_saving.specs.Saving.{saveRow, savedIn, restoreRow}
+use Rattle.row_speed.specs.Speed.{speedRow}
+use Rattle.row_counter.specs.Reading.{readingRow, readRow}
+use Rattle.row_calls.specs.declared.answer.Changed.{Changed}
+use Rattle.row_calls.specs.declared.answer.Changed.the-variants.{To}
 use Rattle.runs.specs.Told.{Told, refused, toldDone, toldView, toldNumber, toldBytes}
 
 -- A call that makes another row of the named one and answers only that it did: setup by kind, depth, width and counts per turn, restore by the

@@ -6,11 +6,11 @@ use mathlib.Core.List.{List, [], _∷_, _++_}
 use lib.Dec.{eqb}
 use Rattle.fields.specs.Field.{flagOf}
 use Rattle.axis.specs.declared.row.Row.{Row}
-use Rattle.rows.specs.Table.{rowAt}
-use Rattle.rows.specs.Located.{located, onFound}
-use Rattle.port.specs.Port.{sampledTable, sampledAnswer}
-use Rattle.port.specs.declared.Sampled.{Sampled}
-use Rattle.port.specs.declared.Sampled.the-variants.{Seen, Refused as Unsampled}
+use Rattle.table_rows.specs.Table.{rowAt}
+use Rattle.table_rows.specs.Located.{located, onFound}
+use Rattle.table_port.specs.Port.{sampledTable, sampledAnswer}
+use Rattle.table_port.specs.declared.Sampled.{Sampled}
+use Rattle.table_port.specs.declared.Sampled.the-variants.{Seen, Refused as Unsampled}
 use Rattle.table.specs.Call.{ruled, tableAfter}
 use Rattle.runs.specs.Told.{Told, marks, refused}
 use Rattle.runs.specs.Op.{Op, ruleOf, answerOf}

@@ -12,20 +12,20 @@ use Rattle.reckon.specs.declared.Reckoned.{Reckoned}
 use Rattle.reckon.specs.declared.Reckoned.the-variants.{Number, Refused as Unreckoned}
 use Rattle.record.specs.declared.answer.Written.{Written}
 use Rattle.record.specs.declared.answer.Written.the-variants.{Refused as Unwritten}
-use Rattle.calls.specs.Answer.{doneOf}
-use Rattle.keeping.specs.Saving.{saveRow, savedIn}
-use Rattle.counter.specs.Reading.{readingRow, storedRow, readRow, readAxis}
-use Rattle.calls.specs.declared.answer.Changed.{Changed}
-use Rattle.calls.specs.declared.answer.Changed.the-variants.{To, Kept}
-use Rattle.calls.specs.declared.answer.Done.{Done}
-use Rattle.calls.specs.declared.answer.Done.the-variants.{Yes, Refused as Undone}
-use Rattle.rows.specs.Table.{axesIn, rowAt, setRow}
-use Rattle.rows.specs.Located.{located, onFound}
+use Rattle.row_calls.specs.Answer.{doneOf}
+use Rattle.row_saving.specs.Saving.{saveRow, savedIn}
+use Rattle.row_counter.specs.Reading.{readingRow, storedRow, readRow, readAxis}
+use Rattle.row_calls.specs.declared.answer.Changed.{Changed}
+use Rattle.row_calls.specs.declared.answer.Changed.the-variants.{To, Kept}
+use Rattle.row_calls.specs.declared.answer.Done.{Done}
+use Rattle.row_calls.specs.declared.answer.Done.the-variants.{Yes, Refused as Undone}
+use Rattle.table_rows.specs.Table.{axesIn, rowAt, setRow}
+use Rattle.table_rows.specs.Located.{located, onFound}
 use Rattle.table.specs.Call.{ruled, tableAfter, Spares, Commits, Makes, readIn, Reads, Saves}
-use Rattle.rows.specs.declared.Located.{Located}
-use Rattle.rows.specs.declared.Located.the-variants.{At, Refused}
-use Rattle.rows.proofs.TableLaws.{length-setRow, word-other, row-other, row-same}
-use Rattle.rows.proofs.LocatedLaws.{found, found-at, found-fits}
+use Rattle.table_rows.specs.declared.Located.{Located}
+use Rattle.table_rows.specs.declared.Located.the-variants.{At, Refused}
+use Rattle.table_rows.proofs.TableLaws.{length-setRow, word-other, row-other, row-same}
+use Rattle.table_rows.proofs.LocatedLaws.{found, found-at, found-fits}
 
 -- ---- the ways out of a call
 

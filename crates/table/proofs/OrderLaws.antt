@@ -22,10 +22,10 @@ use Rattle.reckon.specs.declared.Reckoned.the-variants.{Refused as Unreckoned}
 use Rattle.reckon.proofs.NearestLaws.{verdict}
 use Rattle.axis.specs.Config.{goodConfig}
 use Rattle.axis.specs.Row.{axisOf}
-use Rattle.sound.specs.Sound.{statusOf}
+use Rattle.axis_sound.specs.Sound.{statusOf}
 use Rattle.axis.specs.declared.row.Row.{Row}
-use Rattle.sound.specs.declared.Status.{Status}
-use Rattle.sound.specs.declared.Status.the-variants.{Empty, Sampled, Counter, Broken}
+use Rattle.axis_sound.specs.declared.Status.{Status}
+use Rattle.axis_sound.specs.declared.Status.the-variants.{Empty, Sampled, Counter, Broken}
 use Rattle.record.specs.Answer.{writtenNumber}
 use Rattle.record.specs.Order.{Judged, other-layout, bad-nine, bad-kind, bad-rest, bad-value, all-good}
 use Rattle.record.specs.Record.{readAs, within, recordOf, savedAs}
@@ -33,22 +33,22 @@ use Rattle.record.specs.declared.answer.Read.{Read}
 use Rattle.record.specs.declared.answer.Saved.{Saved}
 use Rattle.record.specs.declared.answer.Written.the-variants.{Bytes, Refused as Unwritten}
 use Rattle.record.proofs.OrderLaws.{exactly}
-use Rattle.calls.specs.Answer.{doneOf, doneNumber, viewNumber}
-use Rattle.calls.specs.Calls.{byStatus, setupRow, eraseRow, placeRow, presetRow, armRow, acknowledgeRow, viewRow}
-use Rattle.keeping.specs.Saving.{savedOf, saveRow, restoreRow, restoredBy}
-use Rattle.speed.specs.Speed.{signOf, spanOf, speedOf, speedRow}
-use Rattle.counter.specs.Reading.{readingRow}
-use Rattle.calls.specs.declared.answer.Changed.{Changed}
-use Rattle.calls.specs.declared.answer.Changed.the-variants.{Kept}
-use Rattle.calls.specs.declared.answer.Done.{Done}
-use Rattle.calls.specs.declared.answer.Viewed.the-variants.{Refused as Unseen}
-use Rattle.rows.specs.Table.{axesIn, rowAt}
-use Rattle.rows.specs.Located.{located, onFound}
+use Rattle.row_calls.specs.Answer.{doneOf, doneNumber, viewNumber}
+use Rattle.row_calls.specs.Calls.{byStatus, setupRow, eraseRow, placeRow, presetRow, armRow, acknowledgeRow, viewRow}
+use Rattle.row_saving.specs.Saving.{savedOf, saveRow, restoreRow, restoredBy}
+use Rattle.row_speed.specs.Speed.{signOf, spanOf, speedOf, speedRow}
+use Rattle.row_counter.specs.Reading.{readingRow}
+use Rattle.row_calls.specs.declared.answer.Changed.{Changed}
+use Rattle.row_calls.specs.declared.answer.Changed.the-variants.{Kept}
+use Rattle.row_calls.specs.declared.answer.Done.{Done}
+use Rattle.row_calls.specs.declared.answer.Viewed.the-variants.{Refused as Unseen}
+use Rattle.table_rows.specs.Table.{axesIn, rowAt}
+use Rattle.table_rows.specs.Located.{located, onFound}
 use Rattle.table.specs.Call.{Makes, viewedIn, readIn, speedIn, saveIn}
 use Rattle.table.specs.Order.{After, changedNumber, Ordered}
-use Rattle.rows.specs.declared.Located.the-variants.{At, Refused}
-use Rattle.rows.proofs.TableLaws.{axes-of, length-wrong}
-use Rattle.rows.proofs.LocatedLaws.{found-none, found-past, found-at}
+use Rattle.table_rows.specs.declared.Located.the-variants.{At, Refused}
+use Rattle.table_rows.proofs.TableLaws.{axes-of, length-wrong}
+use Rattle.table_rows.proofs.LocatedLaws.{found-none, found-past, found-at}
 
 -- ---- one law for every call
 

@@ -6,9 +6,9 @@ use Rattle.refusal.proofs.OutcomeLaws.{one}
 use Rattle.reckon.specs.declared.Reckoned.{Reckoned}
 use Rattle.record.specs.declared.answer.Written.{Written}
 use Rattle.axis.specs.declared.row.Row.{Row}
-use Rattle.calls.specs.declared.answer.Changed.{Changed}
-use Rattle.calls.specs.declared.answer.Done.{Done}
-use Rattle.calls.specs.declared.answer.Viewed.{Viewed}
+use Rattle.row_calls.specs.declared.answer.Changed.{Changed}
+use Rattle.row_calls.specs.declared.answer.Done.{Done}
+use Rattle.row_calls.specs.declared.answer.Viewed.{Viewed}
 use Rattle.table.specs.Call.{Makes, viewedIn, Reads, speedIn, Saves}
 
 -- HEADLINE: setup, erase, preset, arm, acknowledge and restore, each by its rule, have one outcome.

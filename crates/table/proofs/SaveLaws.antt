@@ -11,22 +11,22 @@ use borrow.Author.Tests.{leb-true}
 use Rattle.refusal.specs.declared.Refusal.{Refusal}
 use Rattle.refusal.specs.declared.Refusal.the-variants.{Value, Room}
 use Rattle.axis.specs.Row.{axisOf}
-use Rattle.sound.specs.Sound.{statusOf}
+use Rattle.axis_sound.specs.Sound.{statusOf}
 use Rattle.axis.specs.declared.row.Row.{Row}
-use Rattle.sound.specs.declared.Status.{Status}
-use Rattle.sound.specs.declared.Status.the-variants.{Empty, Sampled, Counter, Broken}
+use Rattle.axis_sound.specs.declared.Status.{Status}
+use Rattle.axis_sound.specs.declared.Status.the-variants.{Empty, Sampled, Counter, Broken}
 use Rattle.record.specs.Record.{within, recordOf, savedAs, written}
 use Rattle.record.specs.declared.answer.Saved.{Saved}
 use Rattle.record.specs.declared.answer.Written.the-variants.{Bytes, Refused as Unwritten}
 use Rattle.record.proofs.RecordLaws.{saved-front, refused-kept}
-use Rattle.calls.specs.Calls.{byStatus}
-use Rattle.keeping.specs.Saving.{savedOf, saveRow, savedIn}
-use Rattle.rows.specs.Table.{axesIn, rowAt}
-use Rattle.rows.specs.Located.{located, onFound}
+use Rattle.row_calls.specs.Calls.{byStatus}
+use Rattle.row_saving.specs.Saving.{savedOf, saveRow, savedIn}
+use Rattle.table_rows.specs.Table.{axesIn, rowAt}
+use Rattle.table_rows.specs.Located.{located, onFound}
 use Rattle.table.specs.Call.{Saves, Fronts}
-use Rattle.rows.specs.declared.Located.{Located}
-use Rattle.rows.specs.declared.Located.the-variants.{At, Refused}
-use Rattle.rows.proofs.LocatedLaws.{found}
+use Rattle.table_rows.specs.declared.Located.{Located}
+use Rattle.table_rows.specs.declared.Located.the-variants.{At, Refused}
+use Rattle.table_rows.proofs.LocatedLaws.{found}
 
 -- Bytes put before what lay beyond them.
 fronts : (bytes b : List ℕ) (n : ℕ) (d : List ℕ) → length bytes ≡ n → n ≤ length b → d ≡ bytes ++ drop n b → Fronts bytes b n d

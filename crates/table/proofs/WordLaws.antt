@@ -9,18 +9,18 @@ use Rattle.axis.specs.declared.row.Row.{Row}
 use Rattle.record.specs.Record.{readAs}
 use Rattle.record.specs.declared.answer.Read.{Read}
 use Rattle.record.specs.declared.answer.Read.the-variants.{Accepted, Refused as Unread}
-use Rattle.calls.specs.Calls.{setupRow, eraseRow, presetRow, armRow, acknowledgeRow}
-use Rattle.keeping.specs.Saving.{restoreRow}
-use Rattle.counter.specs.Reading.{readRow}
-use Rattle.calls.specs.declared.answer.Changed.{Changed}
-use Rattle.calls.specs.declared.answer.Changed.the-variants.{To, Kept}
-use Rattle.calls.proofs.ChangeLaws.{preset-keeps, arm-keeps, acknowledge-keeps}
-use Rattle.counter.proofs.ReadingLaws.{read-keeps}
-use Rattle.calls.proofs.SetupLaws.{setup-makes, erase-makes}
-use Rattle.keeping.proofs.SaveLaws.{restore-refused, restore-makes}
-use Rattle.rows.specs.Table.{AllWords, rowAt}
+use Rattle.row_calls.specs.Calls.{setupRow, eraseRow, presetRow, armRow, acknowledgeRow}
+use Rattle.row_saving.specs.Saving.{restoreRow}
+use Rattle.row_counter.specs.Reading.{readRow}
+use Rattle.row_calls.specs.declared.answer.Changed.{Changed}
+use Rattle.row_calls.specs.declared.answer.Changed.the-variants.{To, Kept}
+use Rattle.row_calls.proofs.ChangeLaws.{preset-keeps, arm-keeps, acknowledge-keeps}
+use Rattle.row_counter.proofs.ReadingLaws.{read-keeps}
+use Rattle.row_calls.proofs.SetupLaws.{setup-makes, erase-makes}
+use Rattle.row_saving.proofs.SaveLaws.{restore-refused, restore-makes}
+use Rattle.table_rows.specs.Table.{AllWords, rowAt}
 use Rattle.table.specs.Call.{ruled, tableAfter}
-use Rattle.rows.proofs.TableLaws.{set-words}
+use Rattle.table_rows.proofs.TableLaws.{set-words}
 use Rattle.table.proofs.CallLaws.{replaced}
 
 -- A rule makes rows of 64-bit words.

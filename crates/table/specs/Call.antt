@@ -9,18 +9,18 @@ use Rattle.reckon.specs.declared.Reckoned.the-variants.{Refused as Unreckoned}
 use Rattle.record.specs.declared.answer.Written.{Written}
 use Rattle.record.specs.declared.answer.Written.the-variants.{Refused as Unwritten}
 use Rattle.axis.specs.declared.row.Row.{Row}
-use Rattle.calls.specs.Answer.{doneOf}
-use Rattle.calls.specs.Calls.{viewRow}
-use Rattle.keeping.specs.Saving.{saveRow, savedIn}
-use Rattle.speed.specs.Speed.{speedRow}
-use Rattle.counter.specs.Reading.{readingRow, readRow}
-use Rattle.calls.specs.declared.answer.Changed.{Changed}
-use Rattle.calls.specs.declared.answer.Changed.the-variants.{To, Kept}
-use Rattle.calls.specs.declared.answer.Done.{Done}
-use Rattle.calls.specs.declared.answer.Viewed.{Viewed}
-use Rattle.calls.specs.declared.answer.Viewed.the-variants.{Refused as Unseen}
-use Rattle.rows.specs.Table.{rowAt, setRow}
-use Rattle.rows.specs.Located.{located, onFound}
+use Rattle.row_calls.specs.Answer.{doneOf}
+use Rattle.row_calls.specs.Calls.{viewRow}
+use Rattle.row_saving.specs.Saving.{saveRow, savedIn}
+use Rattle.row_speed.specs.Speed.{speedRow}
+use Rattle.row_counter.specs.Reading.{readingRow, readRow}
+use Rattle.row_calls.specs.declared.answer.Changed.{Changed}
+use Rattle.row_calls.specs.declared.answer.Changed.the-variants.{To, Kept}
+use Rattle.row_calls.specs.declared.answer.Done.{Done}
+use Rattle.row_calls.specs.declared.answer.Viewed.{Viewed}
+use Rattle.row_calls.specs.declared.answer.Viewed.the-variants.{Refused as Unseen}
+use Rattle.table_rows.specs.Table.{rowAt, setRow}
+use Rattle.table_rows.specs.Located.{located, onFound}
 
 -- What a call makes of the named row, by its rule for one row.
 abbrev pub ruled : (Row → Changed) → List ℕ → ℕ → Changed

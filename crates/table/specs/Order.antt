@@ -8,9 +8,9 @@ use Rattle.refusal.specs.Refusal.{numberOf}
 use Rattle.refusal.specs.declared.Refusal.{Refusal}
 use Rattle.refusal.specs.declared.Refusal.the-variants.{Length, Axis}
 use Rattle.axis.specs.declared.row.Row.{Row}
-use Rattle.calls.specs.Answer.{doneOf, doneNumber}
-use Rattle.calls.specs.declared.answer.Changed.{Changed}
-use Rattle.rows.specs.Table.{axesIn, rowAt}
+use Rattle.row_calls.specs.Answer.{doneOf, doneNumber}
+use Rattle.row_calls.specs.declared.answer.Changed.{Changed}
+use Rattle.table_rows.specs.Table.{axesIn, rowAt}
 
 -- A number of an answer that is done, or refused for a reason that comes after this one.
 abbrev pub After : Refusal → ℕ → Type 0

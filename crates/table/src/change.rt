@@ -1,10 +1,10 @@
 // Preset, arm and acknowledge.
-ghost use Rattle.calls.specs.Calls.{presetRow, armRow, acknowledgeRow};
+ghost use Rattle.row_calls.specs.Calls.{presetRow, armRow, acknowledgeRow};
 ghost use Rattle.table.specs.Call.{Makes};
 use crate::commit::commit;
-use calls::answer::Done;
-use rows::Located;
-use rows::locate;
+use row_calls::answer::Done;
+use table_rows::Located;
+use table_rows::locate;
 
 // Another position: LENGTH, AXIS, BROKEN, EMPTY, VALUE.
 pub fn preset(table: &mut [u64], axis: u64, position: i64) -> Done
@@ -12,7 +12,7 @@ pub fn preset(table: &mut [u64], axis: u64, position: i64) -> Done
 {
     match locate(table, axis) {
         Located::Refused(e) => Done::Refused(e),
-        Located::At(row) => commit(table, axis, calls::change::preset(row, position)),
+        Located::At(row) => commit(table, axis, row_calls::change::preset(row, position)),
     }
 }
 
@@ -22,7 +22,7 @@ pub fn arm(table: &mut [u64], axis: u64) -> Done
 {
     match locate(table, axis) {
         Located::Refused(e) => Done::Refused(e),
-        Located::At(row) => commit(table, axis, calls::change::arm(row)),
+        Located::At(row) => commit(table, axis, row_calls::change::arm(row)),
     }
 }
 
@@ -32,6 +32,6 @@ pub fn acknowledge(table: &mut [u64], axis: u64) -> Done
 {
     match locate(table, axis) {
         Located::Refused(e) => Done::Refused(e),
-        Located::At(row) => commit(table, axis, calls::change::acknowledge(row)),
+        Located::At(row) => commit(table, axis, row_calls::change::acknowledge(row)),
     }
 }

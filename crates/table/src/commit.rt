@@ -2,10 +2,10 @@
 ghost use Prim.Native.Nat.{_+_, _*_, _≤_};
 ghost use lib.ListN.{length};
 ghost use Rattle.table.specs.Call.{Commits};
-use calls::answer::Changed;
-use calls::answer::Done;
-use calls::answer::answered;
-use rows::write_row;
+use row_calls::answer::Changed;
+use row_calls::answer::Done;
+use row_calls::answer::answered;
+use table_rows::write_row;
 
 // The row that the call made takes the named one's place, or every word stays.
 pub(crate) fn commit(table: &mut [u64], axis: u64, change: Changed) -> Done

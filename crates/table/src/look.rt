@@ -1,10 +1,10 @@
 // View, and speed by period: the calls that only look.
 ghost use mathlib.Core.Path.{_≡_};
 ghost use Rattle.table.specs.Call.{viewedIn, speedIn};
-use calls::answer::Viewed;
 use reckon::Reckoned;
-use rows::Located;
-use rows::locate;
+use row_calls::answer::Viewed;
+use table_rows::Located;
+use table_rows::locate;
 
 // What an axis shows: LENGTH, AXIS, BROKEN, EMPTY.
 pub fn view(table: &[u64], axis: u64) -> Viewed
@@ -12,7 +12,7 @@ pub fn view(table: &[u64], axis: u64) -> Viewed
 {
     match locate(table, axis) {
         Located::Refused(e) => Viewed::Refused(e),
-        Located::At(row) => calls::view::view(row),
+        Located::At(row) => row_calls::view::view(row),
     }
 }
 
@@ -22,6 +22,6 @@ pub fn speed(table: &[u64], axis: u64, rate: u64) -> Reckoned
 {
     match locate(table, axis) {
         Located::Refused(e) => Reckoned::Refused(e),
-        Located::At(row) => speed::speed(row, rate),
+        Located::At(row) => row_speed::speed(row, rate),
     }
 }

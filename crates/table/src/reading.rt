@@ -2,8 +2,8 @@
 ghost use Rattle.table.specs.Call.{Reads};
 use crate::commit::commit;
 use reckon::Reckoned;
-use rows::Located;
-use rows::locate;
+use table_rows::Located;
+use table_rows::locate;
 
 // The position that a reading gives, stored and answered: LENGTH, AXIS, BROKEN, EMPTY, KIND, VALUE, HALF, RANGE.
 pub fn reading(table: &mut [u64], axis: u64, reading: u64) -> Reckoned
@@ -12,7 +12,7 @@ pub fn reading(table: &mut [u64], axis: u64, reading: u64) -> Reckoned
     match locate(table, axis) {
         Located::Refused(e) => Reckoned::Refused(e),
         Located::At(row) => {
-            let taken = counter::read(row, reading);
+            let taken = row_counter::read(row, reading);
             let change = taken.row;
             let answer = taken.answer;
             commit(table, axis, change);

@@ -1,11 +1,11 @@
 // Save and restore.
-ghost use Rattle.keeping.specs.Saving.{restoreRow};
+ghost use Rattle.row_saving.specs.Saving.{restoreRow};
 ghost use Rattle.table.specs.Call.{Makes, Saves};
 use crate::commit::commit;
-use calls::answer::Done;
 use record::answer::Written;
-use rows::Located;
-use rows::locate;
+use row_calls::answer::Done;
+use table_rows::Located;
+use table_rows::locate;
 
 // The axis's record at the front of a buffer: LENGTH, AXIS, BROKEN, EMPTY, ROOM.
 pub fn save(table: &[u64], axis: u64, buf: &mut [u8]) -> Written
@@ -13,7 +13,7 @@ pub fn save(table: &[u64], axis: u64, buf: &mut [u8]) -> Written
 {
     match locate(table, axis) {
         Located::Refused(e) => Written::Refused(e),
-        Located::At(row) => keeping::save(row, buf),
+        Located::At(row) => row_saving::save(row, buf),
     }
 }
 
@@ -23,6 +23,6 @@ pub fn restore(table: &mut [u64], axis: u64, slice: &[u8]) -> Done
 {
     match locate(table, axis) {
         Located::Refused(e) => Done::Refused(e),
-        Located::At(_) => commit(table, axis, keeping::restore(slice)),
+        Located::At(_) => commit(table, axis, row_saving::restore(slice)),
     }
 }

@@ -1,10 +1,10 @@
 // Setup and erase, which take any row.
-ghost use Rattle.calls.specs.Calls.{setupRow, eraseRow};
+ghost use Rattle.row_calls.specs.Calls.{setupRow, eraseRow};
 ghost use Rattle.table.specs.Call.{Makes};
 use crate::commit::commit;
-use calls::answer::Done;
-use rows::Located;
-use rows::locate;
+use row_calls::answer::Done;
+use table_rows::Located;
+use table_rows::locate;
 
 // An axis set up anew: LENGTH, AXIS, VALUE.
 pub fn setup(table: &mut [u64], axis: u64, kind: u64, depth: u64, width: u64, turn: u64) -> Done
@@ -12,7 +12,11 @@ pub fn setup(table: &mut [u64], axis: u64, kind: u64, depth: u64, width: u64, tu
 {
     match locate(table, axis) {
         Located::Refused(e) => Done::Refused(e),
-        Located::At(_) => commit(table, axis, calls::setup::setup(kind, depth, width, turn)),
+        Located::At(_) => commit(
+            table,
+            axis,
+            row_calls::setup::setup(kind, depth, width, turn),
+        ),
     }
 }
 
@@ -22,6 +26,6 @@ pub fn erase(table: &mut [u64], axis: u64) -> Done
 {
     match locate(table, axis) {
         Located::Refused(e) => Done::Refused(e),
-        Located::At(_) => commit(table, axis, calls::setup::erase()),
+        Located::At(_) => commit(table, axis, row_calls::setup::erase()),
     }
 }

@@ -3,9 +3,9 @@ use Prim.Native.Nat.{ℕ, _-_, _<_}
 use native.Mathlib.Omega.{arith}
 use mathlib.Core.Path.{_≡_, sym, ap, _∙_}
 use mathlib.Core.List.{[], _++_}
-use Rattle.tracing.specs.Trace.{LIMIT, fedWith}
-use Rattle.tracing.specs.declared.trace.Trace.{Trace}
-use Rattle.tracing.proofs.TraceLaws.{cut, fed-none, fed-grows}
+use Rattle.trace_axis.specs.Trace.{LIMIT, fedWith}
+use Rattle.trace_axis.specs.declared.trace.Trace.{Trace}
+use Rattle.trace_axis.proofs.TraceLaws.{cut, fed-none, fed-grows}
 use Rattle.trace.specs.Input.{Feeds, Reads}
 use Rattle.trace.specs.declared.Input.{Input}
 use Rattle.trace.specs.declared.Input.the-variants.{Bytes, End, Failed}

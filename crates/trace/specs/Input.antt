@@ -3,8 +3,8 @@ use Prim.Native.Nat.{ℕ, _<_}
 use mathlib.Core.Path.{_≡_}
 use mathlib.Core.List.{List}
 use lib.ListN.{length}
-use Rattle.tracing.specs.Trace.{fedWith}
-use Rattle.tracing.specs.declared.trace.Trace.{Trace}
+use Rattle.trace_axis.specs.Trace.{fedWith}
+use Rattle.trace_axis.specs.declared.trace.Trace.{Trace}
 use Rattle.trace.specs.declared.Input.the-variants.{Bytes}
 use Rattle.trace.specs.declared.Turn.{Turn}
 

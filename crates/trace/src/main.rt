@@ -1,10 +1,10 @@
 // Traces one x4 axis: standard input is its samples, a byte each, and what they came to goes to standard output.
-ghost use Rattle.tracing.specs.Trace.{started};
+ghost use Rattle.trace_axis.specs.Trace.{started};
 ghost use Rattle.trace.specs.Input.{Feeds, Reads};
 use libc::STDIN_FILENO;
 use libc::STDOUT_FILENO;
-use tracing::trace::LIMIT;
-use tracing::trace::Trace;
+use trace_axis::trace::LIMIT;
+use trace_axis::trace::Trace;
 
 // What one read found.
 enum Input {

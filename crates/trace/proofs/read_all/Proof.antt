@@ -1,7 +1,7 @@
 use Prim.Native.Nat.{_-_}
 use native.Mathlib.Omega.{arith}
 use borrow.Author.Needs.{needs}
-use Rattle.tracing.specs.Trace.{LIMIT, started}
+use Rattle.trace_axis.specs.Trace.{LIMIT, started}
 use Rattle.trace.specs.Input.{Feeds}
 use Rattle.trace.proofs.InputLaws.{feeds-none, feeds-on, fewer-left}
 use Rattle.trace.proofs.read_all.Statement.{statement}

@@ -1,7 +1,7 @@
 use mir.Syntax.{w64}
 use mir.ValLaws.{toZ-ofZ}
 use mathlib.Core.Path.{sym, _∙_}
-use Rattle.rows.proofs.LocatedLaws.{found-fits}
+use Rattle.table_rows.proofs.LocatedLaws.{found-fits}
 use Rattle.table.proofs.CallLaws.{not-found, found-makes}
 use borrow.Author.Needs.{needs}
 use Rattle.table.proofs.change.preset.Statement.{statement}

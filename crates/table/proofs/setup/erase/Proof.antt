@@ -1,5 +1,5 @@
 use mathlib.Core.Path.{sym, _∙_}
-use Rattle.rows.proofs.LocatedLaws.{found-fits}
+use Rattle.table_rows.proofs.LocatedLaws.{found-fits}
 use Rattle.table.proofs.CallLaws.{not-found, found-makes}
 use borrow.Author.Needs.{needs}
 use Rattle.table.proofs.setup.erase.Statement.{statement}

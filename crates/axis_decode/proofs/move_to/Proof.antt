@@ -1,0 +1,43 @@
+use Rattle.axis_filter.specs.Lines.{line, placeOf, three}
+use Rattle.axis_decode.specs.Decode.{moveTo}
+use borrow.Author.Needs.{needs}
+use Rattle.axis_decode.proofs.move_to.Statement.{statement}
+use Rattle.axis_decode.proofs.move_to.Tie as tie
+
+array-read-code-of : tie.Need-array-read-code-of
+array-read-code-of c = search needs
+
+array-read-code-of-2 : tie.Need-array-read-code-of-2
+array-read-code-of-2 c = search needs
+
+code-of-requires : tie.Need-code-of-requires
+code-of-requires c κs = search needs
+
+code-of-requires-2 : tie.Need-code-of-requires-2
+code-of-requires-2 c κs = search needs
+
+mul-at : tie.Need-mul-at
+mul-at c = search needs
+
+add-at : tie.Need-add-at
+add-at c = search needs
+
+entry-at-requires : tie.Need-entry-at-requires
+entry-at-requires c κs = search needs
+
+returns : tie.Need-returns
+unfolding moveTo line placeOf three
+returns c = rw (c .entry-at .ensures, c .before .before .code-of .ensures .0, c .before .code-of2 .ensures .0)
+
+pub move-to-spec : {M : Type 1} → statement M
+move-to-spec =
+    tie.close
+    (tie.spec
+    array-read-code-of
+    array-read-code-of-2
+    code-of-requires
+    code-of-requires-2
+    mul-at
+    add-at
+    entry-at-requires
+    returns)

@@ -1,0 +1,64 @@
+use Rattle.axis_motion.specs.Count.{countedWord, countedRange}
+use borrow.Author.Tests.{lt-ltb, le-ltb}
+use borrow.Author.Needs.{needs}
+use Rattle.axis_motion.proofs.count.count.Statement.{statement}
+use Rattle.axis_motion.proofs.count.count.Tie as tie
+
+enum-told : tie.Need-enum-told
+enum-told c = search needs
+
+enum-told-2 : tie.Need-enum-told-2
+enum-told-2 c = search needs
+
+add-t6 : tie.Need-add-t6
+add-t6 c = search needs
+
+returns : tie.Need-returns
+unfolding countedWord countedRange
+returns c = rw (c .before .enum-told2 .given .1, lt-ltb _ _ (c .if1 .taken))
+
+enum-told-3 : tie.Need-enum-told-3
+enum-told-3 c = search needs
+
+sub-t8 : tie.Need-sub-t8
+sub-t8 c = search needs
+
+returns-2 : tie.Need-returns-2
+unfolding countedWord countedRange
+returns-2 c = rw (c .before .enum-told3 .given .1, lt-ltb _ _ (c .if2 .taken))
+
+enum-told-4 : tie.Need-enum-told-4
+enum-told-4 c = search needs
+
+returns-3 : tie.Need-returns-3
+unfolding countedWord countedRange
+returns-3 c = rw (c .enum-told .given .1)
+
+returns-4 : tie.Need-returns-4
+unfolding countedWord countedRange
+returns-4 c = rw (c .before .enum-told2 .given .1, le-ltb _ _ (c .if1 .left))
+
+returns-5 : tie.Need-returns-5
+unfolding countedWord countedRange
+returns-5 c = rw (c .before .enum-told3 .given .1, le-ltb _ _ (c .if2 .left))
+
+returns-6 : tie.Need-returns-6
+unfolding countedWord countedRange
+returns-6 c = rw (c .enum-told4 .given .1)
+
+pub count-spec : {M : Type 1} → statement M
+count-spec =
+    tie.close
+    (tie.spec
+    enum-told
+    enum-told-2
+    add-t6
+    returns
+    enum-told-3
+    sub-t8
+    returns-2
+    enum-told-4
+    returns-3
+    returns-4
+    returns-5
+    returns-6)

@@ -1,0 +1,18 @@
+use Rattle.axis_motion.specs.Pace.{stepPeriod}
+use borrow.Author.Needs.{needs}
+use Rattle.axis_motion.proofs.pace.step_period.Statement.{statement}
+use Rattle.axis_motion.proofs.pace.step_period.Tie as tie
+
+older-by-one-requires : tie.Need-older-by-one-requires
+older-by-one-requires c κs = search needs
+
+returns : tie.Need-returns
+unfolding stepPeriod
+returns c = rw (← (c .before .older-by-one .ensures), c .if1 .taken)
+
+returns-2 : tie.Need-returns-2
+unfolding stepPeriod
+returns-2 c = rw (← (c .before .older-by-one .ensures), c .if1 .left)
+
+pub step-period-spec : {M : Type 1} → statement M
+step-period-spec = tie.close (tie.spec older-by-one-requires returns returns-2)

@@ -1,0 +1,106 @@
+-- A sample keeps what a sampled axis is: document 01, "One row, four words" and "A port sample".
+use Prim.Native.Nat.{ℕ, _^_, _<_}
+use mathlib.Core.Path.{_≡_, refl, sym}
+use mathlib.Core.Bool.{Bool, true, false, cond, not, _&&_, _||_, true≢false}
+use lib.Dec.{ltb, lit<}
+use borrow.Author.Tests.{ltb-true}
+use Rattle.axis.specs.declared.row.Axis.{Axis}
+use Rattle.axis_sound.specs.Sound.{SampledAxis}
+use Rattle.axis_filter.specs.Lines.{A, B, Z, placeOf, levelOf, line}
+use Rattle.axis_filter.specs.Filter.{filtered, Short}
+use Rattle.axis_decode.specs.Decode.{moveTo}
+use Rattle.axis_motion.specs.Count.{Reach}
+use Rattle.axis_motion.specs.Index.{rises, offTurn}
+use Rattle.axis_sample.specs.Step.{primedBy, settle, advanced, outcome, stepAxis}
+use Rattle.axis_filter.specs.declared.Raw.{Raw}
+use Rattle.axis_filter.proofs.FilterLaws.{filter-short}
+use Rattle.axis_motion.proofs.CountLaws.{count-reach, doubles-below}
+use Rattle.axis_motion.proofs.PaceLaws.{direction-below, age-below, period-below, resting}
+
+-- The runs of a sampled axis are short.
+pub sampled-short : {x : Axis} → SampledAxis x → Short x
+sampled-short g = record { runA = g .runA; runB = g .runB; runZ = g .runZ }
+
+-- ARMED and HOMED stay apart: homing clears the one as it sets the other.
+apart-step : (a h r : Bool) → a && h ≡ false → (a && not r) && (h || (a && r)) ≡ false
+apart-step true true r e = absurd (true≢false e)
+apart-step true false true e = refl
+apart-step true false false e = refl
+apart-step false h r e = refl
+
+-- INDEX is set only where there are counts per turn.
+index-step : (i c : Bool) (turn : ℕ) (o : Bool) → (i ≡ true → 0 < turn) → (i || (c && (ltb 0 turn && o))) ≡ true → 0 < turn
+index-step true c turn o h e = h refl
+index-step false true turn o h e = go (ltb 0 turn) refl e
+  where
+    go : (b : Bool) → ltb 0 turn ≡ b → (b && o) ≡ true → 0 < turn
+    go true p e = ltb-true 0 turn p
+    go false p e = absurd (true≢false (sym e))
+index-step false false turn o h e = absurd (true≢false (sym e))
+
+home-reach : (b : Bool) {w : ℕ} → Reach w → Reach (cond b (2 ^ 62) w)
+home-reach true h = record { above = lit< tt; below = lit< tt }
+home-reach false h = h
+
+keep-advance : (x : Axis) (s : Raw) → SampledAxis x → SampledAxis (advanced x s)
+unfolding settle filtered line placeOf offTurn
+keep-advance x s g =
+    let n = filtered x s in
+    let m = moveTo x n in
+    let reach = home-reach (x .armed && rises x n) (count-reach m (x .word) (record { above = g .above; below = g .below })) in
+    record {
+      above = reach .above;
+      below = reach .below;
+      kind = g .kind;
+      shallow = g .shallow;
+      deep = g .deep;
+      width = g .width;
+      runA = filter-short (x .depth) (line x A) (levelOf s A) (g .runA);
+      runB = filter-short (x .depth) (line x B) (levelOf s B) (g .runB);
+      runZ = filter-short (x .depth) (line x Z) (levelOf s Z) (g .runZ);
+      apart = apart-step (x .armed) (x .homed) (rises x n) (g .apart);
+      direction = direction-below m (x .direction) (g .direction);
+      period = period-below m (x .direction) (x .age) (x .period) (g .period);
+      resting = resting m (x .direction) (x .age) (x .period) (g .resting);
+      index = index-step (x .index) (rises x n && not (x .armed) && x .homed) (x .turn) _ (g .index);
+      unprimed = λ e. absurd (true≢false e);
+      doubles = doubles-below m (x .doubles) (g .doubles);
+      age = age-below m (x .age);
+      turn = g .turn;
+      levels = refl;
+      runs = refl;
+    }
+
+keep-prime : (x : Axis) (s : Raw) → SampledAxis x → SampledAxis (primedBy x s)
+unfolding primedBy
+keep-prime x s g = record {
+  above = g .above;
+  below = g .below;
+  kind = g .kind;
+  shallow = g .shallow;
+  deep = g .deep;
+  width = g .width;
+  runA = g .shallow;
+  runB = g .shallow;
+  runZ = g .shallow;
+  apart = g .apart;
+  direction = g .direction;
+  period = g .period;
+  resting = g .resting;
+  index = g .index;
+  unprimed = λ e. absurd (true≢false e);
+  doubles = g .doubles;
+  age = g .age;
+  turn = g .turn;
+  levels = refl;
+  runs = refl;
+}
+
+-- HEADLINE: a sampled axis is a sampled axis after a sample.
+pub keep-step : (x : Axis) (s : Raw) → SampledAxis x → SampledAxis (stepAxis x s .axis)
+unfolding stepAxis outcome
+keep-step x s g = go (x .primed)
+  where
+    go : (b : Bool) → SampledAxis (outcome b x s .axis)
+    go true = keep-advance x s g
+    go false = keep-prime x s g

@@ -1,0 +1,23 @@
+use Rattle.axis_sound.proofs.SoundLaws.{sampled-held}
+use Rattle.axis_sample.proofs.KeepLaws.{sampled-short, keep-step}
+use borrow.Author.Needs.{needs}
+use Rattle.axis_sample.proofs.step.step_sampled.Statement.{statement}
+use Rattle.axis_sample.proofs.step.step_sampled.Tie as tie
+
+raw-of-requires : tie.Need-raw-of-requires
+raw-of-requires c κs = search needs
+
+step-axis-requires : tie.Need-step-axis-requires
+step-axis-requires c κs = sampled-short (c .before .pre)
+
+pack-requires : tie.Need-pack-requires
+pack-requires c κs =
+    let start = c .before .before .before in
+    rw (c .before .step-axis .ensures) (sampled-held (keep-step (start .args .x) (c .before .before .raw-of .result) (start .pre)) .narrow)
+
+returns : tie.Need-returns
+returns c = rw (c .pack .ensures, c .before .before .step-axis .ensures, c .before .before .before .raw-of .ensures)
+
+pub step-sampled-spec : {M : Type 1} → statement M
+step-sampled-spec =
+    tie.close (tie.spec raw-of-requires step-axis-requires pack-requires returns)

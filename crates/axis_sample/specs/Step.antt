@@ -1,0 +1,112 @@
+-- A sample on an axis and on a row: document 01, "A port sample".
+use Prim.Native.Nat.{ℕ, _^_}
+use mathlib.Core.Bool.{Bool, true, false, cond, not, _&&_, _||_}
+use mathlib.Core.List.{[], _∷_}
+use Rattle.position.specs.Position.{positionOf}
+use Rattle.axis.specs.Row.{axisOf, rowOf}
+use Rattle.axis_sound.specs.Sound.{statusOf}
+use Rattle.axis.specs.declared.row.Axis.{Axis}
+use Rattle.axis.specs.declared.row.Row.{Row}
+use Rattle.axis_sound.specs.declared.Status.{Status}
+use Rattle.axis_sound.specs.declared.Status.the-variants.{Empty, Sampled, Counter, Broken}
+use Rattle.axis_filter.specs.Lines.{Wire, A, B, Z, rawOf}
+use Rattle.axis_filter.specs.Filter.{filtered}
+use Rattle.axis_decode.specs.Decode.{isE, moveTo}
+use Rattle.axis_motion.specs.Count.{countedWord, countedRange, countedDoubles}
+use Rattle.axis_motion.specs.Pace.{pacedDirection, pacedAge, pacedPeriod}
+use Rattle.axis_motion.specs.Index.{rises, offTurn}
+use Rattle.axis_decode.specs.declared.Move.{Move}
+use Rattle.axis_filter.specs.declared.Line.{Line}
+use Rattle.axis_filter.specs.declared.Raw.{Raw}
+use Rattle.axis_sample.specs.declared.step.Stepped.{Stepped}
+use Rattle.axis_sample.specs.declared.step.SteppedRow.{SteppedRow}
+
+-- Priming takes the three levels as they are, and does no more.
+unfoldable pub primedBy : Axis → Raw → Axis
+primedBy x s = record {
+  word = x .word;
+  kind = x .kind;
+  depth = x .depth;
+  width = x .width;
+  primed = true;
+  armed = x .armed;
+  homed = x .homed;
+  range = x .range;
+  index = x .index;
+  levels = s .a ∷ s .b ∷ s .z ∷ [];
+  runs = 0 ∷ 0 ∷ 0 ∷ [];
+  doubles = x .doubles;
+  direction = x .direction;
+  age = x .age;
+  period = x .period;
+  turn = x .turn;
+}
+
+-- A primed axis whose lines become n: decode, count, age and period, then home or check where Z rose.
+unfoldable pub settle : Axis → (Wire → Line) → Axis
+settle x n =
+    let m = moveTo x n in
+    let w = countedWord m (x .word) in
+    let homes = x .armed && rises x n in
+    record {
+      word = cond homes (2 ^ 62) w;
+      kind = x .kind;
+      depth = x .depth;
+      width = x .width;
+      primed = true;
+      armed = x .armed && not (rises x n);
+      homed = x .homed || homes;
+      range = countedRange m (x .word) (x .range) && not homes;
+      index = x .index || (rises x n && not (x .armed) && x .homed && offTurn (x .turn) (positionOf w));
+      levels = n A .level ∷ n B .level ∷ n Z .level ∷ [];
+      runs = n A .run ∷ n B .run ∷ n Z .run ∷ [];
+      doubles = countedDoubles m (x .doubles);
+      direction = pacedDirection m (x .direction);
+      age = pacedAge m (x .age);
+      period = pacedPeriod m (x .direction) (x .age) (x .period);
+      turn = x .turn;
+    }
+
+-- The entry of a sample on a primed axis.
+abbrev pub moveOf : Axis → Raw → Move
+moveOf x s = moveTo x (filtered x s)
+
+-- Whether a sample on a primed axis is an index rise.
+abbrev pub zRose : Axis → Raw → Bool
+zRose x s = rises x (filtered x s)
+
+-- Whether a sample on a primed axis homes it.
+abbrev pub homes : Axis → Raw → Bool
+homes x s = x .armed && zRose x s
+
+-- A primed axis after a sample.
+abbrev pub advanced : Axis → Raw → Axis
+advanced x s = settle x (filtered x s)
+
+-- A sample on an axis that is primed, or is not: the axis after it, and its bits of the answer.
+unfoldable pub outcome : Bool → Axis → Raw → Stepped
+outcome true x s = record { axis = advanced x s; double = isE (moveOf x s); index = zRose x s }
+outcome false x s = record { axis = primedBy x s; double = false; index = false }
+
+-- A sample on an axis.
+unfoldable pub stepAxis : Axis → Raw → Stepped
+stepAxis x s = outcome (x .primed) x s
+
+-- An axis after a sample as its row, with its bits of the answer.
+abbrev pub packed : Stepped → SteppedRow
+packed s = record { row = rowOf (s .axis); double = s .double; index = s .index; broken = false }
+
+-- A row that a sample leaves as it was, and whether it is broken.
+abbrev pub kept : Row → Bool → SteppedRow
+kept r b = record { row = r; double = false; index = false; broken = b }
+
+-- A sample on a row, by what the row is: a sampled one steps, any other stays, and only a broken one is marked.
+unfoldable pub stepBy : Status → Row → ℕ → SteppedRow
+stepBy Sampled r nibble = packed (stepAxis (axisOf r) (rawOf nibble))
+stepBy Empty r nibble = kept r false
+stepBy Counter r nibble = kept r false
+stepBy Broken r nibble = kept r true
+
+-- A sample on a row.
+unfoldable pub stepRow : Row → ℕ → SteppedRow
+stepRow r nibble = stepBy (statusOf r) r nibble

@@ -1,0 +1,158 @@
+// A sample on an axis, and on a row.
+ghost use mathlib.Core.Path.{_≡_};
+ghost use mathlib.Core.Bool.{true, false};
+ghost use Rattle.axis_sound.specs.Sound.{SampledAxis};
+ghost use Rattle.axis_filter.specs.Lines.{three, rawOf};
+ghost use Rattle.axis_filter.specs.Filter.{Short};
+ghost use Rattle.axis_decode.specs.Decode.{moveTo};
+ghost use Rattle.axis_motion.specs.Index.{rises};
+ghost use Rattle.axis_sample.specs.Step.{settle, outcome, stepAxis, packed, kept, stepRow};
+use axis::row::Axis;
+use axis::row::Row;
+use axis_decode::Move;
+use axis_decode::is_double;
+use axis_decode::move_to;
+use axis_filter::Lines;
+use axis_filter::Raw;
+use axis_filter::filter::filter;
+use axis_filter::raw_of;
+use axis_motion::count::count;
+use axis_motion::count::count_doubles;
+use axis_motion::index::check;
+use axis_motion::index::home;
+use axis_motion::index::z_rises;
+use axis_motion::pace::Pace;
+use axis_motion::pace::paced;
+use axis_packing::pack::pack;
+use axis_sound::axis_in;
+use axis_sound::is_broken;
+use axis_sound::is_sampled;
+
+// The axis after a sample, and its bits of the answer.
+pub struct Stepped {
+    pub axis: Axis,
+    pub double: bool,
+    pub index: bool,
+}
+
+// The row after a sample, and its bits of the answer.
+pub struct SteppedRow {
+    pub row: Row,
+    pub double: bool,
+    pub index: bool,
+    pub broken: bool,
+}
+
+// An axis that is not primed, after a sample: the levels are taken as they are.
+fn prime(x: Axis, s: Raw) -> Stepped
+    ensures { λ r. ⌜ r ≡ outcome false x s ⌝ }
+{
+    let mut axis = x;
+    axis.primed = true;
+    axis.levels = [s.a, s.b, s.z];
+    axis.runs = [0, 0, 0];
+    Stepped {
+        axis,
+        double: false,
+        index: false,
+    }
+}
+
+// A primed axis whose lines become n, where m is the entry and rose says whether Z rose.
+fn settled(x: Axis, n: Lines, m: Move, rose: bool) -> Axis
+    requires { ⌜ (m ≡ moveTo x (three n)) × (rose ≡ rises x (three n)) ⌝ }
+    ensures { λ r. ⌜ r ≡ settle x (three n) ⌝ }
+{
+    let a = n.a;
+    let b = n.b;
+    let z = n.z;
+    let counted = count(m, x.word, x.range);
+    let pace = paced(
+        m,
+        Pace {
+            direction: x.direction,
+            age: x.age,
+            period: x.period,
+        },
+    );
+    let homes = x.armed & rose;
+    let checks = rose & !x.armed & x.homed;
+    let mut y = x;
+    y.word = home(homes, counted.word);
+    y.primed = true;
+    y.armed = x.armed & !rose;
+    y.homed = x.homed | homes;
+    y.range = counted.range & !homes;
+    y.index = check(x.index, checks, x.turn, counted.word);
+    y.levels = [a.level, b.level, z.level];
+    y.runs = [a.run, b.run, z.run];
+    y.doubles = count_doubles(m, x.doubles);
+    y.direction = pace.direction;
+    y.age = pace.age;
+    y.period = pace.period;
+    y
+}
+
+// A primed axis after a sample.
+fn advance(x: Axis, s: Raw) -> Stepped
+    requires { ⌜ Short x ⌝ }
+    ensures { λ r. ⌜ r ≡ outcome true x s ⌝ }
+{
+    let n = filter(x, s);
+    let m = move_to(x, n);
+    let rose = z_rises(x, n);
+    Stepped {
+        axis: settled(x, n, m, rose),
+        double: is_double(m),
+        index: rose,
+    }
+}
+
+// An axis after a sample.
+pub fn step_axis(x: Axis, s: Raw) -> Stepped
+    requires { ⌜ Short x ⌝ }
+    ensures { λ r. ⌜ r ≡ stepAxis x s ⌝ }
+{
+    if x.primed {
+        return advance(x, s);
+    }
+    prime(x, s)
+}
+
+// A sampled axis after a sample, packed.
+fn step_sampled(x: Axis, nibble: u64) -> SteppedRow
+    requires { ⌜ SampledAxis x ⌝ }
+    ensures { λ t. ⌜ t ≡ packed (stepAxis x (rawOf nibble)) ⌝ }
+{
+    let stepped = step_axis(x, raw_of(nibble));
+    let axis = stepped.axis;
+    SteppedRow {
+        row: pack(axis),
+        double: stepped.double,
+        index: stepped.index,
+        broken: false,
+    }
+}
+
+// A row that a sample leaves as it was.
+fn keep(r: Row, broken: bool) -> SteppedRow
+    ensures { λ t. ⌜ t ≡ kept r broken ⌝ }
+{
+    SteppedRow {
+        row: r,
+        double: false,
+        index: false,
+        broken,
+    }
+}
+
+// A row after a sample: a sampled one steps, any other stays, and only a broken one is marked.
+pub fn step_row(r: Row, nibble: u64) -> SteppedRow
+    ensures { λ t. ⌜ t ≡ stepRow r nibble ⌝ }
+{
+    let axis = axis_in(r);
+    if is_sampled(r, axis) {
+        return step_sampled(axis, nibble);
+    }
+    keep(r, is_broken(r))
+}

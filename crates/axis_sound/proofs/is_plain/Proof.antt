@@ -1,0 +1,15 @@
+use borrow.Author.Needs.{needs}
+use Rattle.axis_sound.proofs.is_plain.Statement.{statement}
+use Rattle.axis_sound.proofs.is_plain.Tie as tie
+
+field-requires : tie.Need-field-requires
+field-requires c κs = search needs
+
+field-requires-2 : tie.Need-field-requires-2
+field-requires-2 c κs = search needs
+
+returns : tie.Need-returns
+returns c = rw (c .before .field .ensures, c .field2 .ensures)
+
+pub is-plain-spec : {M : Type 1} → statement M
+is-plain-spec = tie.close (tie.spec field-requires field-requires-2 returns)

@@ -1,0 +1,183 @@
+// Which rows are sound.
+ghost use mathlib.Core.Path.{_≡_};
+ghost use mathlib.Core.Bool.{not, _&&_, _||_};
+ghost use lib.Dec.{eqb, ltb};
+ghost use Rattle.fields.specs.Field.{fieldOf};
+ghost use Rattle.axis.specs.Config.{sampledConfig};
+ghost use Rattle.axis.specs.Row.{axisOf};
+ghost use Rattle.axis_sound.specs.Sound.{isEmpty, isPlain, isShort, isPaced, isSampled, isCounter, statusOf, lowRow, brokenBy};
+use axis::config;
+use axis::row::Axis;
+use axis::row::Row;
+use axis_packing::unpack;
+
+// What a row is.
+pub enum Status {
+    Empty,
+    Sampled,
+    Counter,
+    Broken,
+}
+
+// A row opened: what it is, and the axis that it holds.
+pub struct Opened {
+    pub status: Status,
+    pub axis: Axis,
+}
+
+// Four zero words.
+fn is_empty(r: Row) -> bool
+    ensures { λ b. ⌜ b ≡ isEmpty r ⌝ }
+{
+    (r.w0 == 0) & (r.w1 == 0) & (r.w2 == 0) & (r.w3 == 0)
+}
+
+// What every sound row but an empty one has: a position in word 0, 0 in the bits without a name, and word 3 below 2^32.
+fn is_plain(r: Row) -> bool
+    ensures { λ b. ⌜ b ≡ isPlain r ⌝ }
+{
+    let w0 = r.w0;
+    let w1 = r.w1;
+    let w3 = r.w3;
+    let low = fields::field(w1, 31, 1);
+    let high = fields::field(w1, 50, 14);
+    (1 <= w0) & (w0 < 9223372036854775808) & (low == 0) & (high == 0) & (w3 < 4294967296)
+}
+
+// An axis is primed, or it is fresh: bits 16 to 63 of its row's word 1, which w1 is, are 0, and so are age and period.
+fn is_ready(w1: u64, a: Axis) -> bool
+    ensures { λ b. ⌜ b ≡ (a .primed || (eqb (fieldOf 16 48 w1) 0 && eqb (a .age) 0 && eqb (a .period) 0)) ⌝ }
+{
+    if a.primed {
+        return true;
+    }
+    let rest = fields::field(w1, 16, 48);
+    (rest == 0) & (a.age == 0) & (a.period == 0)
+}
+
+// INDEX is set only where there are counts per turn.
+fn is_indexed(a: Axis) -> bool
+    ensures { λ b. ⌜ b ≡ (not (a .index) || ltb 0 (a .turn)) ⌝ }
+{
+    if a.index {
+        return 0 < a.turn;
+    }
+    true
+}
+
+// Each run is below the depth.
+fn is_short(a: Axis) -> bool
+    ensures { λ b. ⌜ b ≡ isShort a ⌝ }
+{
+    let runs = a.runs;
+    (runs[0] < a.depth) & (runs[1] < a.depth) & (runs[2] < a.depth)
+}
+
+// Direction and period fit each other.
+fn is_paced(a: Axis) -> bool
+    ensures { λ b. ⌜ b ≡ isPaced a ⌝ }
+{
+    if a.direction == 0 {
+        return a.period == 0;
+    }
+    (a.direction != 3) & (a.period <= 4294967294)
+}
+
+// What a sampled row has whatever its axis did last: a plain row, a sampled configuration, short runs, and ARMED and HOMED not both.
+fn is_formed(r: Row, a: Axis) -> bool
+    ensures { λ b. ⌜ b ≡ isPlain r && sampledConfig (a .kind) (a .depth) (a .width) (r .w3) && (isShort a && not (a .armed && a .homed)) ⌝ }
+{
+    let apart = !(a.armed & a.homed);
+    let plain = is_plain(r);
+    let config = config::is_sampled(a.kind as u64, a.depth as u64, a.width as u64, r.w3);
+    plain & config & (is_short(a) & apart)
+}
+
+// A sampled row, of which a is what it unpacks to: its axis, where word 3 is below 2^32.
+pub fn is_sampled(r: Row, a: Axis) -> bool
+    requires { ⌜ a ≡ axisOf (lowRow r) ⌝ }
+    ensures { λ b. ⌜ b ≡ isSampled r ⌝ }
+{
+    if !is_formed(r, a) {
+        return false;
+    }
+    if !is_paced(a) {
+        return false;
+    }
+    if !is_indexed(a) {
+        return false;
+    }
+    is_ready(r.w1, a)
+}
+
+// A counter row: past its configuration nothing is set.
+fn is_counter(r: Row) -> bool
+    ensures { λ b. ⌜ b ≡ isCounter r ⌝ }
+{
+    let w2 = r.w2;
+    let plain = is_plain(r);
+    let kind = fields::field(r.w1, 0, 4);
+    let depth = fields::field(r.w1, 4, 4);
+    let width = fields::field(r.w1, 8, 6);
+    let counter = config::is_counter(kind, depth, width, r.w3);
+    let rest = fields::field(r.w1, 14, 50);
+    plain & counter & (rest == 0) & (w2 == 0)
+}
+
+// What a row is, by the first test that it passes.
+fn classify(r: Row) -> Status
+    ensures { λ s. ⌜ s ≡ statusOf r ⌝ }
+{
+    if is_empty(r) {
+        return Status::Empty;
+    }
+    if is_sampled(r, axis_in(r)) {
+        return Status::Sampled;
+    }
+    if is_counter(r) {
+        return Status::Counter;
+    }
+    Status::Broken
+}
+
+// Whether a row is broken.
+pub fn is_broken(r: Row) -> bool
+    ensures { λ b. ⌜ b ≡ brokenBy (statusOf r) ⌝ }
+{
+    match classify(r) {
+        Status::Broken => true,
+        Status::Empty => false,
+        Status::Sampled => false,
+        Status::Counter => false,
+    }
+}
+
+// A row with the low 32 bits of word 3.
+fn low(r: Row) -> Row
+    ensures { λ q. ⌜ q ≡ lowRow r ⌝ }
+{
+    Row {
+        w0: r.w0,
+        w1: r.w1,
+        w2: r.w2,
+        w3: fields::field(r.w3, 0, 32),
+    }
+}
+
+// What a row unpacks to. A broken row's word 3 is cut to 32 bits.
+pub fn axis_in(r: Row) -> Axis
+    ensures { λ a. ⌜ a ≡ axisOf (lowRow r) ⌝ }
+{
+    unpack::unpack(low(r))
+}
+
+// What a row is, and what it unpacks to. It is short, so that it is put in line; classify is not.
+pub fn open(r: Row) -> Opened
+    ensures { λ o. ⌜ (o .status ≡ statusOf r) × (o .axis ≡ axisOf (lowRow r)) ⌝ }
+{
+    let axis = axis_in(r);
+    Opened {
+        status: classify(r),
+        axis,
+    }
+}

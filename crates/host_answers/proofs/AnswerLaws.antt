@@ -1,0 +1,60 @@
+-- What C sees tells the answers apart.
+use native.Mathlib.Omega.{arith}
+use mathlib.Core.Path.{_≡_, refl, ap}
+use mathlib.Core.Bool.{Bool, true, false}
+use lib.IntN.{natAbs}
+use Rattle.fields.specs.Field.{bitOf}
+use Rattle.record.specs.declared.answer.Written.{Written}
+use Rattle.record.proofs.AnswerLaws.{save-told}
+use Rattle.row_calls.specs.Answer.{viewValue}
+use Rattle.row_calls.specs.declared.answer.Done.{Done}
+use Rattle.row_calls.specs.declared.answer.Viewed.{Viewed}
+use Rattle.row_calls.proofs.AnswerLaws.{done-told, view-told}
+use Rattle.table_port.specs.declared.Sampled.{Sampled}
+use Rattle.table_port.proofs.AnswerLaws.{sample-told}
+use Rattle.host.specs.declared.answer.Answer.{Answer}
+use Rattle.host_answers.specs.Answer.{answerDone, answerWritten, answerSampled, answerView}
+use Rattle.host_answers.specs.declared.sampled.SampledAnswer.{SampledAnswer}
+use Rattle.host_answers.specs.declared.view.ViewAnswer.{ViewAnswer}
+
+bit-apart : (a b : Bool) → bitOf a ≡ bitOf b → a ≡ b
+bit-apart true true e = refl
+bit-apart true false e = absurd (omega arith)
+bit-apart false true e = absurd (omega arith)
+bit-apart false false e = refl
+
+-- HEADLINE: two calls that say only that they were done, and look the same to C, had the same answer.
+pub done-apart : (a b : Done) → answerDone a ≡ answerDone b → a ≡ b
+unfolding answerDone
+done-apart a b e = done-told a b (ap (λ (x : Answer). x .refusal) e) (ap (λ (x : Answer). x .found) e)
+
+-- HEADLINE: so did two saves.
+pub written-apart : (a b : Written) → answerWritten a ≡ answerWritten b → a ≡ b
+unfolding answerWritten
+written-apart a b e =
+    save-told a b (ap (λ (x : Answer). x .refusal) e) (ap (λ (x : Answer). x .found) e) (ap (λ (x : Answer). natAbs (x .value)) e)
+
+-- HEADLINE: so did two port samples.
+pub sampled-apart : (a b : Sampled) → answerSampled a ≡ answerSampled b → a ≡ b
+unfolding answerSampled
+sampled-apart a b e =
+    sample-told a b (ap (λ (x : SampledAnswer). x .refusal) e) (ap (λ (x : SampledAnswer). x .found) e)
+    (λ i. record { doubles = e i .doubles; index = e i .index; broken = e i .broken })
+
+-- HEADLINE: so did two views.
+pub view-apart : (a b : Viewed) → answerView a ≡ answerView b → a ≡ b
+unfolding answerView
+view-apart a b e =
+    let u = viewValue a in
+    let v = viewValue b in
+    view-told a b (ap (λ (x : ViewAnswer). x .refusal) e) (ap (λ (x : ViewAnswer). x .found) e)
+    (λ i. record {
+      kind = e i .kind;
+      position = e i .position;
+      primed = bit-apart (u .primed) (v .primed) (λ j. e j .primed) i;
+      armed = bit-apart (u .armed) (v .armed) (λ j. e j .armed) i;
+      homed = bit-apart (u .homed) (v .homed) (λ j. e j .homed) i;
+      range = bit-apart (u .range) (v .range) (λ j. e j .range) i;
+      index = bit-apart (u .index) (v .index) (λ j. e j .index) i;
+      doubles = e i .doubles;
+    })

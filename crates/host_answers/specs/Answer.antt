@@ -1,0 +1,53 @@
+-- What the calls on a table answer to C: document 01, "Calls that name one axis", "A port sample" and "Reasons for saying no".
+use lib.IntN.{pos}
+use Rattle.refusal.specs.Refusal.{numberOf, foundIn}
+use Rattle.refusal.specs.declared.Refusal.{Refusal}
+use Rattle.fields.specs.Field.{bitOf}
+use Rattle.record.specs.Answer.{writtenNumber, writtenFound, writtenBytes}
+use Rattle.record.specs.declared.answer.Written.{Written}
+use Rattle.row_calls.specs.Answer.{doneNumber, doneFound, viewNumber, viewFound, viewValue}
+use Rattle.row_calls.specs.declared.answer.Done.{Done}
+use Rattle.row_calls.specs.declared.answer.Viewed.{Viewed}
+use Rattle.table_port.specs.Port.{sampledNumber, sampledFound, sampledMasks}
+use Rattle.table_port.specs.declared.Sampled.{Sampled}
+use Rattle.host.specs.declared.answer.Answer.{Answer}
+use Rattle.host_answers.specs.declared.sampled.SampledAnswer.{SampledAnswer}
+use Rattle.host_answers.specs.declared.view.ViewAnswer.{ViewAnswer}
+
+-- The paper's number and found number of a refusal, which has no value.
+abbrev pub answerRefused : Refusal → Answer
+answerRefused e = record { refusal = numberOf e; found = foundIn e; value = pos 0 }
+
+-- The paper's number and found number of a call that says only that it was done.
+unfoldable pub answerDone : Done → Answer
+answerDone a = record { refusal = doneNumber a; found = doneFound a; value = pos 0 }
+
+-- The paper's number, found number and number of bytes of a save's answer.
+unfoldable pub answerWritten : Written → Answer
+answerWritten a = record { refusal = writtenNumber a; found = writtenFound a; value = pos (writtenBytes a) }
+
+-- The paper's number, found number and masks of a port sample's answer.
+unfoldable pub answerSampled : Sampled → SampledAnswer
+answerSampled a = record {
+  refusal = sampledNumber a;
+  found = sampledFound a;
+  doubles = sampledMasks a .doubles;
+  index = sampledMasks a .index;
+  broken = sampledMasks a .broken;
+}
+
+-- The paper's number, found number and values of a view's answer, each flag as 0 or 1.
+unfoldable pub answerView : Viewed → ViewAnswer
+answerView a = record {
+  refusal = viewNumber a;
+  found = viewFound a;
+  position = viewValue a .position;
+  kind = viewValue a .kind;
+  doubles = viewValue a .doubles;
+  primed = bitOf (viewValue a .primed);
+  armed = bitOf (viewValue a .armed);
+  homed = bitOf (viewValue a .homed);
+  range = bitOf (viewValue a .range);
+  index = bitOf (viewValue a .index);
+  unused = 0;
+}

@@ -1,0 +1,29 @@
+// Preset, arm and acknowledge.
+ghost use Rattle.row_calls.specs.Calls.{presetRow, armRow, acknowledgeRow};
+ghost use Rattle.host_table.specs.Call.{MakesToC};
+use host::answer::Answer;
+use host_answers::plain::of_done;
+
+// Another position: LENGTH, AXIS, BROKEN, EMPTY, VALUE.
+#[no_mangle]
+pub extern "C" fn ubrenchip_preset(table: &mut [u64], axis: u64, position: i64) -> Answer
+    ensures { λ r. ⌜ MakesToC (presetRow position) (now (table .entry)) axis (now (table .exit)) r ⌝ }
+{
+    of_done(table::change::preset(table, axis, position))
+}
+
+// The next index rise is to home: LENGTH, AXIS, BROKEN, EMPTY, KIND.
+#[no_mangle]
+pub extern "C" fn ubrenchip_arm(table: &mut [u64], axis: u64) -> Answer
+    ensures { λ r. ⌜ MakesToC armRow (now (table .entry)) axis (now (table .exit)) r ⌝ }
+{
+    of_done(table::change::arm(table, axis))
+}
+
+// Doubles and INDEX have been seen: LENGTH, AXIS, BROKEN, EMPTY, KIND.
+#[no_mangle]
+pub extern "C" fn ubrenchip_acknowledge(table: &mut [u64], axis: u64) -> Answer
+    ensures { λ r. ⌜ MakesToC acknowledgeRow (now (table .entry)) axis (now (table .exit)) r ⌝ }
+{
+    of_done(table::change::acknowledge(table, axis))
+}

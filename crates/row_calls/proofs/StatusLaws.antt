@@ -1,0 +1,77 @@
+-- What a row's status gives to the calls: the words that they read, and an axis that packs again.
+use Prim.Native.Nat.{ℕ, _<_, _^_}
+use native.Mathlib.Omega.{arith}
+use mathlib.Core.Path.{_≡_, refl, sym, ap, subst}
+use mathlib.Core.Logic.{_⊎_, inl, inr}
+use mathlib.Core.Bool.{Bool, true, false, cond}
+use lib.IntN.{ℤ}
+use mir.Syntax.{w64}
+use mir.Val.{toZ, ofZ}
+use Rattle.integers.proofs.Machine.{back, fits-size}
+use Rattle.position.specs.Position.{inRange}
+use Rattle.position.proofs.PositionLaws.{range-is}
+use Rattle.refusal.specs.declared.Refusal.{Refusal}
+use Rattle.refusal.specs.declared.Refusal.the-variants.{Broken as BROKEN, Empty as EMPTY}
+use Rattle.axis.specs.Row.{axisOf, Narrow}
+use Rattle.axis_sound.specs.Sound.{statusOf}
+use Rattle.axis.specs.declared.row.Axis.{Axis}
+use Rattle.axis.specs.declared.row.Row.{Row}
+use Rattle.axis_sound.specs.declared.Status.{Status}
+use Rattle.axis_sound.specs.declared.Status.the-variants.{Empty, Sampled, Counter, Broken}
+use Rattle.axis_sound.proofs.SoundLaws.{sampled-gives, counter-gives}
+use Rattle.row_calls.specs.Change.{changed}
+use Rattle.row_calls.specs.Calls.{Positioned, byStatus}
+
+-- A sampled row has a position.
+pub sampled-positioned : (r : Row) → statusOf r ≡ Sampled → Positioned (axisOf r)
+sampled-positioned r e = let s = sampled-gives r e in record { above = s .above; below = s .below }
+
+-- A counter row has a position.
+pub counter-positioned : (r : Row) → statusOf r ≡ Counter → Positioned (axisOf r)
+counter-positioned r e = let k = counter-gives r e in record { above = k .above; below = k .below }
+
+-- An axis within its widths packs, whatever its word, its flags and its doubles become.
+pub packs : {a : Axis} → Narrow a → (word : ℕ) (armed homed range index : Bool) (doubles : ℕ) → doubles < 2 ^ 16 →
+    Narrow (changed a word armed homed range index doubles)
+unfolding changed
+packs n word armed homed range index doubles below = record {
+  kind = n .kind;
+  depth = n .depth;
+  width = n .width;
+  runA = n .runA;
+  runB = n .runB;
+  runZ = n .runZ;
+  doubles = below;
+  direction = n .direction;
+}
+
+-- The machine holds a position as it is.
+pub held-position : (p : ℤ) → inRange p ≡ true → toZ w64 (ofZ w64 p) ≡ p
+held-position p e = back (fits-size p (omega (arith, range-is p e)))
+
+-- A call that is not refused is on a sampled row or on a counter.
+pub live : {A : Type 0} (refuse : Refusal → A) (sampled counter a : A) → ((e : Refusal) → refuse e ≡ a → ⊥) → (s : Status) →
+    byStatus refuse sampled counter s ≡ a → ((s ≡ Sampled) × (sampled ≡ a)) ⊎ ((s ≡ Counter) × (counter ≡ a))
+live refuse sampled counter a never Broken e = absurd (never BROKEN e)
+live refuse sampled counter a never Empty e = absurd (never EMPTY e)
+live refuse sampled counter a never Sampled e = inl (refl, e)
+live refuse sampled counter a never Counter e = inr (refl, e)
+
+-- A row that is sampled or a counter.
+abbrev pub Live : Row → Type 0
+Live r = (statusOf r ≡ Sampled) ⊎ (statusOf r ≡ Counter)
+
+-- It has a position.
+pub live-position : (r : Row) → Live r → Positioned (axisOf r)
+live-position r (inl e) = sampled-positioned r e
+live-position r (inr e) = counter-positioned r e
+
+-- A row whose status goes by its kind is one.
+pub made-live : (q : Row) (b : Bool) → statusOf q ≡ cond b Sampled Counter → Live q
+made-live q true e = inl e
+made-live q false e = inr e
+
+-- A call that does the same on both kinds does that on such a row.
+pub either-kind : {A : Type 0} (refuse : Refusal → A) (x : A) (r : Row) → Live r → byStatus refuse x x (statusOf r) ≡ x
+either-kind refuse x r (inl e) = ap (byStatus refuse x x) e
+either-kind refuse x r (inr e) = ap (byStatus refuse x x) e

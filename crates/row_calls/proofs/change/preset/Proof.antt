@@ -1,0 +1,66 @@
+use Rattle.integers.proofs.Machine.{back}
+use mathlib.Core.Path.{sym, ap, _∙_}
+use Rattle.row_calls.specs.Calls.{placeAxis, placeRow, presetRow}
+use Rattle.axis_sound.proofs.SoundLaws.{opened-narrow, opened-sampled, opened-counter}
+use borrow.Author.Needs.{needs}
+use Rattle.row_calls.proofs.change.preset.Statement.{statement}
+use Rattle.row_calls.proofs.change.preset.Tie as tie
+
+open-requires : tie.Need-open-requires
+open-requires c κs = search needs
+
+enum-told : tie.Need-enum-told
+enum-told c = search needs
+
+enum-told-2 : tie.Need-enum-told-2
+enum-told-2 c = search needs
+
+enum-told-3 : tie.Need-enum-told-3
+enum-told-3 c = search needs
+
+placed-requires : tie.Need-placed-requires
+placed-requires c κs = let o = c .before .before .before in opened-narrow (o .before .args .r) _ (o .open .ensures .1)
+
+enum-told-4 : tie.Need-enum-told-4
+enum-told-4 c = search needs
+
+placed-requires-2 : tie.Need-placed-requires-2
+placed-requires-2 c κs = let o = c .before .before .before in opened-narrow (o .before .args .r) _ (o .open .ensures .1)
+
+returns : tie.Need-returns
+unfolding presetRow
+returns c = rw (sym (c .before .before .before .open .ensures .0) ∙ c .enum-told .given .1)
+
+returns-2 : tie.Need-returns-2
+unfolding presetRow
+returns-2 c = rw (sym (c .before .before .before .open .ensures .0) ∙ c .enum-told2 .given .1)
+
+returns-3 : tie.Need-returns-3
+unfolding presetRow placeRow
+returns-3 c =
+    let o = c .before .before .before .before in
+    let g = opened-sampled (o .before .args .r) (o .open .result) (o .open .ensures) (c .before .enum-told3 .given .1) in
+    rw (g .0) (rw (back (o .before .fits .position)) at (c .placed .ensures) ∙ ap (placeAxis (o .before .args .position)) (g .1))
+
+returns-4 : tie.Need-returns-4
+unfolding presetRow placeRow
+returns-4 c =
+    let o = c .before .before .before .before in
+    let g = opened-counter (o .before .args .r) (o .open .result) (o .open .ensures) (c .before .enum-told4 .given .1) in
+    rw (g .0) (rw (back (o .before .fits .position)) at (c .placed2 .ensures) ∙ ap (placeAxis (o .before .args .position)) (g .1))
+
+pub preset-spec : {M : Type 1} → statement M
+preset-spec =
+    tie.close
+    (tie.spec
+    open-requires
+    enum-told
+    enum-told-2
+    enum-told-3
+    placed-requires
+    enum-told-4
+    placed-requires-2
+    returns
+    returns-2
+    returns-3
+    returns-4)

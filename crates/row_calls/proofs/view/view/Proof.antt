@@ -1,0 +1,72 @@
+use mathlib.Core.Path.{sym, ap, _∙_}
+use Rattle.row_calls.specs.declared.answer.Viewed.the-variants.{Shows}
+use Rattle.row_calls.specs.Answer.{viewOf}
+use Rattle.row_calls.specs.Calls.{viewRow}
+use Rattle.row_calls.proofs.StatusLaws.{sampled-positioned, counter-positioned}
+use Rattle.axis_sound.proofs.SoundLaws.{opened-sampled, opened-counter}
+use borrow.Author.Needs.{needs}
+use Rattle.row_calls.proofs.view.view.Statement.{statement}
+use Rattle.row_calls.proofs.view.view.Tie as tie
+
+open-requires : tie.Need-open-requires
+open-requires c κs = search needs
+
+enum-told : tie.Need-enum-told
+enum-told c = search needs
+
+enum-told-2 : tie.Need-enum-told-2
+enum-told-2 c = search needs
+
+enum-told-3 : tie.Need-enum-told-3
+enum-told-3 c = search needs
+
+shown-requires : tie.Need-shown-requires
+shown-requires c κs =
+    let o = c .before .before .before in
+    let g = opened-sampled (o .before .args .r) (o .open .result) (o .open .ensures) (c .enum-told3 .given .1) in
+    rw (g .1) (sampled-positioned (o .before .args .r) (g .0))
+
+enum-told-4 : tie.Need-enum-told-4
+enum-told-4 c = search needs
+
+shown-requires-2 : tie.Need-shown-requires-2
+shown-requires-2 c κs =
+    let o = c .before .before .before in
+    let g = opened-counter (o .before .args .r) (o .open .result) (o .open .ensures) (c .enum-told4 .given .1) in
+    rw (g .1) (counter-positioned (o .before .args .r) (g .0))
+
+returns : tie.Need-returns
+unfolding viewRow
+returns c = rw (sym (c .before .before .before .open .ensures .0) ∙ c .enum-told .given .1)
+
+returns-2 : tie.Need-returns-2
+unfolding viewRow
+returns-2 c = rw (sym (c .before .before .before .open .ensures .0) ∙ c .enum-told2 .given .1)
+
+returns-3 : tie.Need-returns-3
+unfolding viewRow
+returns-3 c =
+    let o = c .before .before .before .before in
+    rw (sym (o .open .ensures .0) ∙ c .before .enum-told3 .given .1) (ap Shows (c .shown .ensures ∙ ap viewOf (o .open .ensures .1)))
+
+returns-4 : tie.Need-returns-4
+unfolding viewRow
+returns-4 c =
+    let o = c .before .before .before .before in
+    rw (sym (o .open .ensures .0) ∙ c .before .enum-told4 .given .1) (ap Shows (c .shown2 .ensures ∙ ap viewOf (o .open .ensures .1)))
+
+pub view-spec : {M : Type 1} → statement M
+view-spec =
+    tie.close
+    (tie.spec
+    open-requires
+    enum-told
+    enum-told-2
+    enum-told-3
+    shown-requires
+    enum-told-4
+    shown-requires-2
+    returns
+    returns-2
+    returns-3
+    returns-4)

@@ -1,0 +1,84 @@
+-- What setup, erase, preset, arm, acknowledge and view make of the named row, and answer: document 01, "Calls that name one axis".
+use Prim.Native.Nat.{ℕ, _<_, _^_}
+use mathlib.Core.Bool.{cond}
+use lib.IntN.{ℤ}
+use Rattle.position.specs.Position.{inRange}
+use Rattle.refusal.specs.declared.Refusal.{Refusal}
+use Rattle.refusal.specs.declared.Refusal.the-variants.{Broken as BROKEN, Empty as EMPTY, Kind as KIND, Value as VALUE}
+use Rattle.axis.specs.Config.{goodConfig}
+use Rattle.axis.specs.Row.{axisOf, rowOf, emptyRow, fresh}
+use Rattle.axis_sound.specs.Sound.{statusOf}
+use Rattle.axis.specs.declared.config.Config.{Config}
+use Rattle.axis.specs.declared.row.Axis.{Axis}
+use Rattle.axis.specs.declared.row.Row.{Row}
+use Rattle.axis_sound.specs.declared.Status.{Status}
+use Rattle.axis_sound.specs.declared.Status.the-variants.{Empty, Sampled, Counter, Broken}
+use Rattle.row_calls.specs.Change.{presetAxis, armAxis, acknowledgeAxis}
+use Rattle.row_calls.specs.Answer.{viewOf}
+use Rattle.row_calls.specs.declared.answer.Changed.{Changed}
+use Rattle.row_calls.specs.declared.answer.Changed.the-variants.{To, Kept}
+use Rattle.row_calls.specs.declared.answer.Viewed.{Viewed}
+use Rattle.row_calls.specs.declared.answer.Viewed.the-variants.{Shows, Refused as Unseen}
+
+-- The refusals that a row's own state gives, in their order: BROKEN, EMPTY, and then what the call does on a sampled row and on a counter.
+abbrev pub byStatus : {A : Type 0} → (Refusal → A) → A → A → Status → A
+byStatus refuse sampled counter Broken = refuse BROKEN
+byStatus refuse sampled counter Empty = refuse EMPTY
+byStatus refuse sampled counter Sampled = sampled
+byStatus refuse sampled counter Counter = counter
+
+-- The row that a call leaves: the one that it made, or the row as it was.
+abbrev pub leftBy : Row → Changed → Row
+leftBy r (To q) = q
+leftBy r (Kept e) = r
+
+-- One call after another: the second takes the row that the first made, and a refusal of the first stands.
+abbrev pub andThen : Changed → (Row → Changed) → Changed
+andThen (To q) next = next q
+andThen (Kept e) next = Kept e
+
+-- ---- setup and erase, which take any row
+
+-- The configuration of four numbers.
+abbrev pub configOf : ℕ → ℕ → ℕ → ℕ → Config
+configOf kind depth width turn = record { kind = kind; depth = depth; width = width; turn = turn }
+
+-- Setup replaces the row, or refuses four numbers that are no configuration.
+unfoldable pub setupRow : ℕ → ℕ → ℕ → ℕ → Row → Changed
+setupRow kind depth width turn r =
+    cond (goodConfig kind depth width turn) (To (rowOf (fresh (configOf kind depth width turn)))) (Kept VALUE)
+
+-- Erase writes four zero words.
+unfoldable pub eraseRow : Row → Changed
+eraseRow r = To emptyRow
+
+-- ---- calls on a row that is sound and not empty
+
+-- What the axis of every such row has: its word is that of a position.
+pub record Positioned (a : Axis) : Type 0 where
+  pub above : 0 < a .word
+  pub below : a .word < 2 ^ 63
+
+-- A preset on the axis of such a row.
+abbrev pub placeAxis : ℤ → Axis → Changed
+placeAxis p x = cond (inRange p) (To (rowOf (presetAxis p x))) (Kept VALUE)
+
+-- A preset on such a row.
+unfoldable pub placeRow : ℤ → Row → Changed
+placeRow p r = placeAxis p (axisOf r)
+
+-- Preset, on a sampled row and on a counter.
+unfoldable pub presetRow : ℤ → Row → Changed
+presetRow p r = byStatus Kept (placeRow p r) (placeRow p r) (statusOf r)
+
+-- Arm, on a sampled row only.
+unfoldable pub armRow : Row → Changed
+armRow r = byStatus Kept (To (rowOf (armAxis (axisOf r)))) (Kept KIND) (statusOf r)
+
+-- Acknowledge, on a sampled row only.
+unfoldable pub acknowledgeRow : Row → Changed
+acknowledgeRow r = byStatus Kept (To (rowOf (acknowledgeAxis (axisOf r)))) (Kept KIND) (statusOf r)
+
+-- The answer of a view, on a sampled row and on a counter.
+unfoldable pub viewRow : Row → Viewed
+viewRow r = byStatus Unseen (Shows (viewOf (axisOf r))) (Shows (viewOf (axisOf r))) (statusOf r)

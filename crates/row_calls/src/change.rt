@@ -1,0 +1,81 @@
+// Preset, arm and acknowledge: the row is opened, its axis changed, and packed again.
+ghost use mathlib.Core.Path.{_≡_};
+ghost use Rattle.axis.specs.Row.{Narrow};
+ghost use Rattle.row_calls.specs.Calls.{placeAxis, presetRow, armRow, acknowledgeRow};
+use crate::answer::Changed;
+use axis::row::Axis;
+use axis::row::Row;
+use axis_packing::pack::pack;
+use axis_sound::Status;
+use axis_sound::open;
+use refusal::Refusal;
+
+// An axis put at another position, with HOMED and RANGE cleared.
+fn placed(x: Axis, position: i64) -> Changed
+    requires { ⌜ Narrow x ⌝ }
+    ensures { λ c. ⌜ c ≡ placeAxis position x ⌝ }
+{
+    if !position::in_range(position) {
+        return Changed::Kept(Refusal::Value);
+    }
+    let mut moved = x;
+    moved.word = position::word_of(position);
+    moved.homed = false;
+    moved.range = false;
+    Changed::To(pack(moved))
+}
+
+// Preset: another position.
+pub fn preset(r: Row, position: i64) -> Changed
+    ensures { λ c. ⌜ c ≡ presetRow position r ⌝ }
+{
+    let opened = open(r);
+    let status = opened.status;
+    let axis = opened.axis;
+    match status {
+        Status::Broken => Changed::Kept(Refusal::Broken),
+        Status::Empty => Changed::Kept(Refusal::Empty),
+        Status::Sampled => placed(axis, position),
+        Status::Counter => placed(axis, position),
+    }
+}
+
+// Arm: the next index rise is to home.
+pub fn arm(r: Row) -> Changed
+    ensures { λ c. ⌜ c ≡ armRow r ⌝ }
+{
+    let opened = open(r);
+    let status = opened.status;
+    let axis = opened.axis;
+    match status {
+        Status::Broken => Changed::Kept(Refusal::Broken),
+        Status::Empty => Changed::Kept(Refusal::Empty),
+        Status::Counter => Changed::Kept(Refusal::Kind),
+        Status::Sampled => {
+            let mut armed = axis;
+            armed.armed = true;
+            armed.homed = false;
+            Changed::To(pack(armed))
+        }
+    }
+}
+
+// Acknowledge: doubles and INDEX have been seen.
+pub fn acknowledge(r: Row) -> Changed
+    ensures { λ c. ⌜ c ≡ acknowledgeRow r ⌝ }
+{
+    let opened = open(r);
+    let status = opened.status;
+    let axis = opened.axis;
+    match status {
+        Status::Broken => Changed::Kept(Refusal::Broken),
+        Status::Empty => Changed::Kept(Refusal::Empty),
+        Status::Counter => Changed::Kept(Refusal::Kind),
+        Status::Sampled => {
+            let mut seen = axis;
+            seen.index = false;
+            seen.doubles = 0;
+            Changed::To(pack(seen))
+        }
+    }
+}

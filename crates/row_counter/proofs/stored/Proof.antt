@@ -1,0 +1,25 @@
+use mathlib.Core.Path.{ap, _∙_}
+use Prim.Native.Nat.{ℕ}
+use Rattle.integers.proofs.Machine.{back}
+use Rattle.axis.specs.Row.{rowOf}
+use Rattle.row_calls.specs.Change.{changed}
+use borrow.Author.Needs.{needs}
+use Rattle.row_counter.proofs.stored.Statement.{statement}
+use Rattle.row_counter.proofs.stored.Tie as tie
+
+word-of-requires : tie.Need-word-of-requires
+word-of-requires c κs = search needs
+
+pack-requires : tie.Need-pack-requires
+pack-requires c κs = search needs
+
+returns : tie.Need-returns
+unfolding changed
+returns c =
+    let s = c .before .before in
+    let x = s .args .x in
+    let w = rw (back (s .fits .position)) at (c .before .word-of .ensures) in
+    c .pack .ensures ∙ ap (λ (n : ℕ). rowOf (changed x n (x .armed) (x .homed) (x .range) (x .index) (x .doubles))) w
+
+pub stored-spec : {M : Type 1} → statement M
+stored-spec = tie.close (tie.spec word-of-requires pack-requires returns)

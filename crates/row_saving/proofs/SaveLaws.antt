@@ -1,0 +1,191 @@
+-- The laws of save and restore.
+use Prim.Native.Nat.{ℕ, _≤_, _^_}
+use native.Mathlib.Omega.{arith}
+use mathlib.Core.Path.{_≡_, refl, sym, ap, _∙_}
+use mathlib.Core.Bool.{true, cond}
+use mathlib.Core.Logic.{inl, inr, ⊎-elim}
+use mathlib.Core.List.{List, _++_}
+use lib.Dec.{leb, lit<}
+use lib.ListN.{length, take, drop}
+use lib.Seq.{take-append-seam}
+use borrow.Author.Tests.{le-leb, leb-true}
+use Rattle.integers.proofs.Balance.{Tested, yes, no, test}
+use Rattle.position.specs.Position.{inRange, wordOf}
+use Rattle.position.proofs.PositionLaws.{word-low, word-high, position-in-range, position-word, word-position}
+use Rattle.refusal.specs.declared.Refusal.{Refusal}
+use Rattle.refusal.specs.declared.Refusal.the-variants.{Room as ROOM}
+use Rattle.axis.specs.Kind.{sampledKind}
+use Rattle.axis.specs.Config.{sampledConfig, counterConfig, goodConfig}
+use Rattle.axis.specs.Row.{axisOf, rowOf, fresh, freshAt, Words}
+use Rattle.axis_sound.specs.Sound.{statusOf}
+use Rattle.axis.specs.declared.row.Axis.{Axis}
+use Rattle.axis.specs.declared.row.Row.{Row}
+use Rattle.axis_sound.specs.declared.Status.the-variants.{Sampled, Counter, Broken}
+use Rattle.axis.proofs.TestLaws.{both, either}
+use Rattle.axis_sound.proofs.PassLaws.{sampled-config}
+use Rattle.axis_sound.proofs.SoundLaws.{sampled-gives, counter-gives, counter-config, packed-again}
+use Rattle.tagged.specs.Bytes.{AllBytes}
+use Rattle.record.specs.Answer.{writtenNumber}
+use Rattle.record.specs.Record.{within, readAs, recordOf, savedAs, written}
+use Rattle.record.specs.declared.answer.Saved.{Saved}
+use Rattle.record.specs.declared.answer.Read.{Read}
+use Rattle.record.specs.declared.answer.Read.the-variants.{Accepted, Refused as Unread}
+use Rattle.record.specs.declared.answer.Written.the-variants.{Bytes, Refused as Unwritten}
+use Rattle.record.proofs.RecordLaws.{read-back, one-encoding, accepted-within, saved-front}
+use Rattle.row_calls.specs.Change.{changed, presetAxis, Holds}
+use Rattle.row_calls.specs.Reasons.{Told}
+use Rattle.row_calls.specs.Calls.{andThen, placeRow, presetRow, setupRow}
+use Rattle.row_saving.specs.Saving.{savedOf, saveRow, savedIn, restoredBy, restoreRow}
+use Rattle.row_calls.specs.declared.answer.Changed.the-variants.{To, Kept}
+use Rattle.row_calls.proofs.StatusLaws.{live, Live, live-position, made-live, either-kind}
+use Rattle.row_calls.proofs.ChangeLaws.{to-one, kept-not}
+use Rattle.row_calls.proofs.ReasonLaws.{Past, both-kinds}
+use Rattle.row_calls.proofs.SetupLaws.{config-holds}
+
+-- What is within its limits is a configuration and a position.
+pub within-parts : (s : Saved) → within s ≡ true →
+    (goodConfig (s .config .kind) (s .config .depth) (s .config .width) (s .config .turn) ≡ true) × (inRange (s .position) ≡ true)
+unfolding within
+within-parts s e = both (goodConfig (s .config .kind) (s .config .depth) (s .config .width) (s .config .turn)) (inRange (s .position)) e
+
+-- The row of what a record says holds the axis that it says.
+said-holds : (said : Saved) → within said ≡ true →
+    Holds (rowOf (freshAt (said .config) (wordOf (said .position)))) (cond (sampledKind (said .config .kind)) Sampled Counter) (freshAt (said .config) (wordOf (said .position)))
+said-holds said e =
+    let p = within-parts said e in
+    config-holds (said .config) (wordOf (said .position)) (p .0) (word-low (said .position) (p .1)) (word-high (said .position) (p .1))
+
+-- HEADLINE: a restore is refused where the record is, for the same reason.
+pub restore-refused : (s : List ℕ) (e : Refusal) (r : Row) → readAs s ≡ Unread e → restoreRow s r ≡ Kept e
+unfolding restoreRow restoredBy
+restore-refused s e r h = rw h
+
+-- HEADLINE: a restore that is accepted makes a sampled row or a counter, by its kind, with the configuration and the position that the record says.
+pub restore-makes : (s : List ℕ) (said : Saved) (r q : Row) → readAs s ≡ Accepted said → restoreRow s r ≡ To q →
+    Holds q (cond (sampledKind (said .config .kind)) Sampled Counter) (freshAt (said .config) (wordOf (said .position)))
+unfolding restoreRow restoredBy
+restore-makes s said r q a e = to-one (rw a at e) (said-holds said (accepted-within s said a))
+
+-- HEADLINE: a restore that is accepted is a setup with the record's configuration and then a preset to its position, whatever the row held.
+pub restore-is : (s : List ℕ) (said : Saved) (r : Row) → readAs s ≡ Accepted said →
+    restoreRow s r ≡ andThen (setupRow (said .config .kind) (said .config .depth) (said .config .width) (said .config .turn) r) (presetRow (said .position))
+unfolding restoreRow restoredBy setupRow presetRow placeRow changed
+restore-is s said r a =
+    let c = said .config in
+    let p = said .position in
+    let parts = within-parts said (accepted-within s said a) in
+    let h = config-holds c (2 ^ 62) (parts .0) (lit< tt) (lit< tt) in
+    let set : placeRow p (rowOf (fresh c)) ≡ To (rowOf (freshAt c (wordOf p))) = rw (parts .1) (ap (λ (x : Axis). To (rowOf (presetAxis p x))) (h .axis)) in
+    rw (a, parts .0) (sym (either-kind Kept (placeRow p (rowOf (fresh c))) (rowOf (fresh c)) (made-live (rowOf (fresh c)) (sampledKind (c .kind)) (h .status)) ∙ set))
+
+-- ---- what is saved
+
+-- A sampled configuration is one, and so is a counter's.
+sampled-good : (k d v n : ℕ) → sampledConfig k d v n ≡ true → goodConfig k d v n ≡ true
+unfolding goodConfig
+sampled-good k d v n e = rw e
+
+counter-good : (k d v n : ℕ) → counterConfig k d v n ≡ true → goodConfig k d v n ≡ true
+unfolding goodConfig
+counter-good k d v n e = either (sampledConfig k d v n) (counterConfig k d v n) (λ _. e)
+
+-- The configuration and the position of a sound row are within their limits.
+saved-within : (r : Row) → Live r → within (savedOf (axisOf r)) ≡ true
+unfolding within
+saved-within r (inl e) =
+    let s = sampled-gives r e in
+    let a = axisOf r in
+    rw (sampled-good (a .kind) (a .depth) (a .width) (a .turn) (sampled-config s), position-in-range (a .word) (s .above) (s .below))
+saved-within r (inr e) =
+    let k = counter-gives r e in
+    let a = axisOf r in
+    rw (counter-good (a .kind) (a .depth) (a .width) (a .turn) (counter-config k), position-in-range (a .word) (k .above) (k .below))
+
+-- The record of a row.
+abbrev bytes : Row → List ℕ
+bytes r = recordOf (savedOf (axisOf r))
+
+module _ (r : Row) (l : Live r) where
+  -- HEADLINE: a save of a sampled row or a counter answers the length of its record, or ROOM where the buffer is shorter; never VALUE.
+  pub save-answers : (room : ℕ) → saveRow room r ≡ cond (leb (length (bytes r)) room) (Bytes (length (bytes r))) (Unwritten ROOM)
+  unfolding saveRow savedAs
+  save-answers room = either-kind Unwritten (savedAs room (savedOf (axisOf r))) r l ∙ rw (saved-within r l)
+
+  -- HEADLINE: it writes that record at the front of the buffer and leaves the rest as it was.
+  pub save-front : (b : List ℕ) → length (bytes r) ≤ length b → savedIn b r ≡ bytes r ++ drop (length (bytes r)) b
+  unfolding savedIn
+  save-front b h =
+      either-kind (λ _. b) (written b (savedOf (axisOf r))) r l ∙ saved-front b (savedOf (axisOf r)) (saved-within r l) h
+
+-- A save that is not refused is one of a sampled row or a counter, and answers the length of its record, for which there is room.
+saved-live : (room n : ℕ) (r : Row) → saveRow room r ≡ Bytes n → Live r
+unfolding saveRow
+saved-live room n r e =
+    let w = savedAs room (savedOf (axisOf r)) in
+    ⊎-elim (λ h. inl (h .0)) (λ h. inr (h .0)) (live Unwritten w w (Bytes n) (λ f h. let z : _≡_ {A = ℕ} 0 1 = cc in omega arith) (statusOf r) e)
+
+saved-length : (room n : ℕ) (r : Row) (l : Live r) → saveRow room r ≡ Bytes n → (length (bytes r) ≡ n) × (n ≤ room)
+saved-length room n r l e = go (test (leb (length (bytes r)) room)) (sym (save-answers r l room) ∙ e)
+  where
+    go : Tested (leb (length (bytes r)) room) → cond (leb (length (bytes r)) room) (Bytes (length (bytes r))) (Unwritten ROOM) ≡ Bytes n →
+        (length (bytes r) ≡ n) × (n ≤ room)
+    go (yes h) k =
+        let m : Bytes (length (bytes r)) ≡ Bytes n = rw h at k in
+        let d : length (bytes r) ≡ n = cc in
+        (d, omega (arith, leb-true (length (bytes r)) room h))
+    go (no h) k = let m : Unwritten ROOM ≡ Bytes n = rw h at k in absurd (let z : _≡_ {A = ℕ} 0 1 = cc in omega arith)
+
+-- HEADLINE: a restore of what a save wrote makes, of any row, the row with the saved configuration and position and all else 0.
+pub restored-save : (b : List ℕ) (n : ℕ) (r q : Row) → saveRow (length b) r ≡ Bytes n →
+    restoreRow (take n (savedIn b r)) q ≡ To (rowOf (freshAt (savedOf (axisOf r) .config) (axisOf r .word)))
+unfolding restoreRow restoredBy
+restored-save b n r q e =
+    let a = axisOf r in
+    let l = saved-live (length b) n r e in
+    let k = saved-length (length b) n r l e in
+    let front : take n (savedIn b r) ≡ bytes r = rw (save-front r l b (rw (k .0) (k .1)), ← k .0) (take-append-seam (bytes r) (drop (length (bytes r)) b)) in
+    let p = live-position r l in
+    rw (front, read-back (savedOf a) (saved-within r l), word-position (a .word) (p .above) (p .below))
+
+-- HEADLINE: a counter that was saved is restored as it was, all four words.
+pub restored-counter : (b : List ℕ) (n : ℕ) (r q : Row) → Words r → statusOf r ≡ Counter → saveRow (length b) r ≡ Bytes n → restoreRow (take n (savedIn b r)) q ≡ To r
+restored-counter b n r q w c e =
+    let k = counter-gives r c in
+    restored-save b n r q e
+    ∙ ap (λ (x : Axis). To (rowOf x)) (ap (λ (x : Axis). freshAt (savedOf x .config) (x .word)) (k .rest) ∙ sym (k .rest))
+    ∙ ap To (packed-again r w (λ h. not-broken (sym c ∙ h)))
+  where
+    not-broken : Counter ≡ Broken → ⊥
+    not-broken h = let z : _≡_ {A = ℕ} 0 1 = cc in omega arith
+
+-- HEADLINE: a save after a restore that was accepted writes the same bytes, into any buffer that has room for them.
+pub saved-restore : (s b : List ℕ) (r q : Row) → AllBytes s → restoreRow s r ≡ To q → length s ≤ length b →
+    (saveRow (length b) q ≡ Bytes (length s)) × (savedIn b q ≡ s ++ drop (length s) b)
+saved-restore s b r q all e room = go (readAs s) refl
+  where
+    go : (n : Read) → readAs s ≡ n → (saveRow (length b) q ≡ Bytes (length s)) × (savedIn b q ≡ s ++ drop (length s) b)
+    go (Unread f) h = absurd (kept-not q f (sym (restore-refused s f r h) ∙ e))
+    go (Accepted said) h =
+        let m = restore-makes s said r q h e in
+        let l = made-live q (sampledKind (said .config .kind)) (m .status) in
+        let p = within-parts said (accepted-within s said h) .1 in
+        let same : bytes q ≡ s = ap (λ (x : Axis). recordOf (savedOf x)) (m .axis) ∙ rw (position-word (said .position) p) (one-encoding s said all h) in
+        (save-answers q l (length b) ∙ rw (same, le-leb (length s) (length b) room), rw same at (save-front q l b (rw same room)))
+
+-- ---- reasons
+
+save-past : (room : ℕ) (s : Saved) → Past (writtenNumber (savedAs room s))
+unfolding Past savedAs
+save-past room s = go (test (within s)) (test (leb (length (recordOf s)) room))
+  where
+    go : Tested (within s) → Tested (leb (length (recordOf s)) room) → Past (writtenNumber (savedAs room s))
+    go (no g) t = rw g (inr (lit< tt))
+    go (yes g) (yes h) = rw (g, h) (inl refl)
+    go (yes g) (no h) = rw (g, h) (inr (lit< tt))
+
+-- HEADLINE: save takes both kinds.
+pub save-reasons : (room : ℕ) (r : Row) → Told (writtenNumber (saveRow room r)) (statusOf r) ⊥
+unfolding saveRow
+save-reasons room r =
+    let s = savedOf (axisOf r) in
+    both-kinds writtenNumber Unwritten (λ e. refl) (savedAs room s) (savedAs room s) (save-past room s) (save-past room s) (statusOf r)

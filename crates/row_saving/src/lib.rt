@@ -1,0 +1,61 @@
+// Save and restore.
+ghost use mathlib.Core.Path.{_≡_};
+ghost use lib.ListN.{length};
+ghost use Rattle.row_calls.specs.Calls.{Positioned};
+ghost use Rattle.row_saving.specs.Saving.{savedOf, saveRow, savedIn, restoreRow};
+use axis::config::Config;
+use axis::row::Axis;
+use axis::row::Row;
+use axis_packing::pack::pack;
+use axis_sound::Status;
+use axis_sound::open;
+use record::answer::Read;
+use record::answer::Saved;
+use record::answer::Written;
+use refusal::Refusal;
+use row_calls::answer::Changed;
+
+// What is saved of an axis.
+fn kept(a: Axis) -> Saved
+    requires { ⌜ Positioned a ⌝ }
+    ensures { λ s. ⌜ s ≡ savedOf a ⌝ }
+{
+    Saved {
+        config: Config {
+            kind: a.kind,
+            depth: a.depth,
+            width: a.width,
+            turn: a.turn,
+        },
+        position: position::at_word(a.word),
+    }
+}
+
+// Save: the axis's record at the front of a buffer.
+pub fn save(r: Row, buf: &mut [u8]) -> Written
+    ensures { λ w. ⌜ (w ≡ saveRow (length (now (buf .entry))) r) × (now (buf .exit) ≡ savedIn (now (buf .entry)) r) ⌝ }
+{
+    let opened = open(r);
+    let status = opened.status;
+    let axis = opened.axis;
+    match status {
+        Status::Broken => Written::Refused(Refusal::Broken),
+        Status::Empty => Written::Refused(Refusal::Empty),
+        Status::Sampled => record_writer::save(buf, kept(axis)),
+        Status::Counter => record_writer::save(buf, kept(axis)),
+    }
+}
+
+// Restore: the axis that a record says, as setup and then preset would leave it.
+pub fn restore(slice: &[u8]) -> Changed
+    ensures { λ c. ⌜ ((r : Row) → c ≡ restoreRow (now (slice .entry)) r) ⌝ }
+{
+    match record::reader::read(slice) {
+        Read::Refused(e) => Changed::Kept(e),
+        Read::Accepted(saved) => {
+            let config = saved.config;
+            let word = position::word_of(saved.position);
+            Changed::To(pack(Axis::setup_at(config, word)))
+        }
+    }
+}

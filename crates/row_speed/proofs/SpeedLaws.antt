@@ -1,0 +1,124 @@
+-- The laws of speed by period: each answer exactly where it is due, and how near a speed is.
+use Prim.Native.Nat.{ℕ, zero, suc, _*_, _^_, _<_, _≤_}
+use native.Mathlib.Omega.{arith}
+use mathlib.Core.Path.{_≡_, refl, sym}
+use mathlib.Core.Logic.{_⊎_, inl, inr, ⊎-elim}
+use mathlib.Core.Bool.{Bool, true, false, cond, _&&_}
+use lib.Dec.{eqb, lit<}
+use lib.IntN.{ℤ, pos, negsuc, natAbs, _-ℤ_, _*ℤ_}
+use borrow.Author.Tests.{eq-eqb, ne-eqb, le-leb, lt-ltb}
+use Rattle.integers.proofs.Balance.{Tested, yes, no, test}
+use Rattle.refusal.specs.declared.Refusal.the-variants.{Kind as KIND, Value as VALUE, NoPeriod as NO-PERIOD}
+use Rattle.reckon.specs.Reckoned.{refusalIn}
+use Rattle.reckon.specs.Rounding.{rounded}
+use Rattle.reckon.specs.Speed.{goodCount, goodSamples, goodRate, speedByCount}
+use Rattle.reckon.specs.declared.Reckoned.the-variants.{Number, Refused}
+use Rattle.reckon.proofs.SpeedLaws.{good-speed, speed-near}
+use Rattle.reckon.proofs.ReckonedLaws.{refused-not}
+use Rattle.axis.specs.Row.{axisOf}
+use Rattle.axis_sound.specs.Sound.{statusOf, SampledAxis}
+use Rattle.axis.specs.declared.row.Axis.{Axis}
+use Rattle.axis.specs.declared.row.Row.{Row}
+use Rattle.axis_sound.specs.declared.Status.the-variants.{Sampled, Counter}
+use Rattle.axis_sound.proofs.SoundLaws.{sampled-gives}
+use Rattle.row_speed.specs.Speed.{signOf, spanOf, speedOf, speedRow}
+use Rattle.row_calls.specs.Reasons.{Told}
+use Rattle.row_calls.proofs.StatusLaws.{live}
+use Rattle.row_calls.proofs.ReasonLaws.{Past, sampled-only}
+
+-- One count is within the limits of a count difference.
+sign-good : (direction : ℕ) → goodCount (signOf direction) ≡ true
+unfolding goodCount
+sign-good direction = go (eqb direction 2)
+  where
+    go : (b : Bool) → goodCount (cond b (negsuc 0) (pos 1)) ≡ true
+    go true = refl
+    go false = refl
+
+-- So is the span of a sampled axis with a period within those of a number of samples.
+span-good : {a : Axis} → SampledAxis a → 0 < a .period → goodSamples (spanOf a) ≡ true
+span-good {a} s h =
+    let t : spanOf a < 2 ^ 32 = omega (arith, s .period, s .age) in
+    let o : 1 ≤ spanOf a = omega arith in
+    rw (le-leb 1 (spanOf a) o, lt-ltb (spanOf a) (2 ^ 32) t)
+
+-- A direction other than 0 and 3.
+one-or-two : (d : ℕ) → d < 3 → (d ≡ 0 → ⊥) → (d ≡ 1) ⊎ (d ≡ 2)
+one-or-two zero l some = absurd (some refl)
+one-or-two (suc zero) l some = inl refl
+one-or-two (suc (suc zero)) l some = inr refl
+one-or-two (suc (suc (suc d))) l some = absurd (let far : ⊥ = omega arith in far)
+
+module _ (rate : ℕ) (r : Row) (sampled : statusOf r ≡ Sampled) where
+  abbrev a : Axis
+  a = axisOf r
+
+  -- HEADLINE: on a sampled row a rate outside its limits is VALUE, whatever the period.
+  pub speed-value : goodRate rate ≡ false → speedRow rate r ≡ Refused VALUE
+  unfolding speedRow speedOf
+  speed-value h = rw (sampled, h)
+
+  -- HEADLINE: within them a period of 0 is NO PERIOD.
+  pub speed-still : goodRate rate ≡ true → a .period ≡ 0 → speedRow rate r ≡ Refused NO-PERIOD
+  unfolding speedRow speedOf
+  speed-still h z = rw (sampled, h, eq-eqb (a .period) 0 z)
+
+  -- HEADLINE: any other period gives a speed: the direction's sign times 1000 F over the larger of period and age, to the nearest.
+  pub speed-moving : goodRate rate ≡ true → 0 < a .period → speedRow rate r ≡ Number (rounded (signOf (a .direction) *ℤ pos (1000 * rate)) (spanOf a))
+  unfolding speedRow speedOf
+  speed-moving h p =
+      rw (sampled, h, ne-eqb (a .period) 0 (λ z. let idle : ⊥ = omega arith in idle))
+      (sym (good-speed (signOf (a .direction)) (spanOf a) rate (sign-good (a .direction)) (span-good (sampled-gives r sampled) p) h))
+
+  -- HEADLINE: and then the direction is forward, 1, or back, 2.
+  pub speed-direction : 0 < a .period → (a .direction ≡ 1) ⊎ (a .direction ≡ 2)
+  speed-direction p =
+      let s = sampled-gives r sampled in
+      one-or-two (a .direction) (s .direction) (λ z. let idle : ⊥ = omega (arith, s .resting z) in idle)
+
+-- ---- reasons
+
+count-past : (D : ℤ) (T F : ℕ) → Past (refusalIn (speedByCount D T F))
+unfolding Past speedByCount
+count-past D T F = go (test (goodCount D && goodSamples T && goodRate F))
+  where
+    go : Tested (goodCount D && goodSamples T && goodRate F) → Past (refusalIn (speedByCount D T F))
+    go (yes g) = rw g (inl refl)
+    go (no g) = rw g (inr (lit< tt))
+
+speed-past : (rate : ℕ) (a : Axis) → Past (refusalIn (speedOf rate a))
+unfolding Past speedOf
+speed-past rate a = go (test (goodRate rate)) (test (eqb (a .period) 0))
+  where
+    go : Tested (goodRate rate) → Tested (eqb (a .period) 0) → Past (refusalIn (speedOf rate a))
+    go (no g) t = rw g (inr (lit< tt))
+    go (yes g) (yes z) = rw (g, z) (inr (lit< tt))
+    go (yes g) (no z) = rw (g, z) (count-past (signOf (a .direction)) (spanOf a) rate)
+
+-- HEADLINE: speed by period takes sampled rows.
+pub speed-reasons : (rate : ℕ) (r : Row) → Told (refusalIn (speedRow rate r)) (statusOf r) (statusOf r ≡ Counter)
+unfolding speedRow
+speed-reasons rate r = sampled-only refusalIn Refused (λ e. refl) (speedOf rate (axisOf r)) (speed-past rate (axisOf r)) (statusOf r)
+
+-- ---- what it was reckoned from
+
+-- What a speed was reckoned from.
+speed-from : (rate : ℕ) (r : Row) (v : ℤ) → speedRow rate r ≡ Number v →
+    (statusOf r ≡ Sampled) × (speedByCount (signOf (axisOf r .direction)) (spanOf (axisOf r)) rate ≡ Number v)
+unfolding speedRow speedOf
+speed-from rate r v e =
+    ⊎-elim
+    (λ h. (h .0, go (test (goodRate rate)) (test (eqb (axisOf r .period) 0)) (h .1)))
+    (λ h. absurd (refused-not v KIND (h .1)))
+    (live Refused (speedOf rate (axisOf r)) (Refused KIND) (Number v) (refused-not v) (statusOf r) e)
+  where
+    go : Tested (goodRate rate) → Tested (eqb (axisOf r .period) 0) → speedOf rate (axisOf r) ≡ Number v →
+        speedByCount (signOf (axisOf r .direction)) (spanOf (axisOf r)) rate ≡ Number v
+    go (no g) t h = absurd (refused-not v VALUE (rw g at h))
+    go (yes g) (yes z) h = absurd (refused-not v NO-PERIOD (rw (g, z) at h))
+    go (yes g) (no z) h = rw (g, z) at h
+
+-- HEADLINE: with T the larger of period and age, twice |v T - 1000 F| is at most T, F with the direction's sign.
+pub speed-bound : (rate : ℕ) (r : Row) (v : ℤ) → speedRow rate r ≡ Number v →
+    2 * natAbs ((v *ℤ pos (spanOf (axisOf r))) -ℤ (signOf (axisOf r .direction) *ℤ pos (1000 * rate))) ≤ spanOf (axisOf r)
+speed-bound rate r v e = speed-near (signOf (axisOf r .direction)) (spanOf (axisOf r)) rate v (speed-from rate r v e .1)

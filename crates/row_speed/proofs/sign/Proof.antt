@@ -1,0 +1,12 @@
+use borrow.Author.Tests.{eq-eqb, ne-eqb}
+use Rattle.row_speed.proofs.sign.Statement.{statement}
+use Rattle.row_speed.proofs.sign.Tie as tie
+
+returns : tie.Need-returns
+returns c = rw (eq-eqb (c .before .args .direction) 2 (c .if1 .taken))
+
+returns-2 : tie.Need-returns-2
+returns-2 c = rw (ne-eqb (c .before .args .direction) 2 (c .if1 .left))
+
+pub sign-spec : {M : Type 1} → statement M
+sign-spec = tie.close (tie.spec returns returns-2)

@@ -1,0 +1,58 @@
+use mathlib.Core.Path.{sym, ap, _∙_}
+use Rattle.row_speed.specs.Speed.{speedOf, speedRow}
+use Rattle.axis_sound.proofs.SoundLaws.{opened-sampled}
+use borrow.Author.Needs.{needs}
+use Rattle.row_speed.proofs.speed.Statement.{statement}
+use Rattle.row_speed.proofs.speed.Tie as tie
+
+open-requires : tie.Need-open-requires
+open-requires c κs = search needs
+
+enum-told : tie.Need-enum-told
+enum-told c = search needs
+
+enum-told-2 : tie.Need-enum-told-2
+enum-told-2 c = search needs
+
+enum-told-3 : tie.Need-enum-told-3
+enum-told-3 c = search needs
+
+enum-told-4 : tie.Need-enum-told-4
+enum-told-4 c = search needs
+
+by-period-requires : tie.Need-by-period-requires
+by-period-requires c κs = search needs
+
+returns : tie.Need-returns
+unfolding speedRow
+returns c = rw (sym (c .before .before .before .open .ensures .0) ∙ c .enum-told .given .1)
+
+returns-2 : tie.Need-returns-2
+unfolding speedRow
+returns-2 c = rw (sym (c .before .before .before .open .ensures .0) ∙ c .enum-told2 .given .1)
+
+returns-3 : tie.Need-returns-3
+unfolding speedRow
+returns-3 c = rw (sym (c .before .before .before .open .ensures .0) ∙ c .enum-told3 .given .1)
+
+returns-4 : tie.Need-returns-4
+unfolding speedRow
+returns-4 c =
+    let o = c .before .before .before .before in
+    let g = opened-sampled (o .before .args .r) (o .open .result) (o .open .ensures) (c .before .enum-told4 .given .1) in
+    rw (g .0) (c .by-period .ensures ∙ ap (speedOf (o .before .args .rate)) (g .1))
+
+pub speed-spec : {M : Type 1} → statement M
+speed-spec =
+    tie.close
+    (tie.spec
+    open-requires
+    enum-told
+    enum-told-2
+    enum-told-3
+    enum-told-4
+    by-period-requires
+    returns
+    returns-2
+    returns-3
+    returns-4)

@@ -1,0 +1,33 @@
+-- Speed by period, on a row: document 01, "Calls that name one axis".
+use Prim.Native.Nat.{ℕ, max}
+use mathlib.Core.Bool.{cond}
+use lib.Dec.{eqb}
+use lib.IntN.{ℤ, pos, negsuc}
+use Rattle.refusal.specs.declared.Refusal.the-variants.{Kind as KIND, Value as VALUE, NoPeriod as NO-PERIOD}
+use Rattle.reckon.specs.Speed.{goodRate, speedByCount}
+use Rattle.reckon.specs.declared.Reckoned.{Reckoned}
+use Rattle.reckon.specs.declared.Reckoned.the-variants.{Refused as Unreckoned}
+use Rattle.axis.specs.Row.{axisOf}
+use Rattle.axis.specs.declared.row.Axis.{Axis}
+use Rattle.axis.specs.declared.row.Row.{Row}
+use Rattle.axis_sound.specs.Sound.{statusOf}
+use Rattle.row_calls.specs.Calls.{byStatus}
+
+-- The sign of a direction: 1 forward, 2 back.
+abbrev pub signOf : ℕ → ℤ
+signOf d = cond (eqb d 2) (negsuc 0) (pos 1)
+
+-- The samples that one count took or has taken so far: the larger of period and age.
+abbrev pub spanOf : Axis → ℕ
+spanOf a = max (a .period) (a .age)
+
+-- Speed by period on a sampled row: one count over that many samples.
+unfoldable pub speedOf : ℕ → Axis → Reckoned
+speedOf rate a =
+    cond (goodRate rate)
+    (cond (eqb (a .period) 0) (Unreckoned NO-PERIOD) (speedByCount (signOf (a .direction)) (spanOf a) rate))
+    (Unreckoned VALUE)
+
+-- The answer of speed by period, on a sampled row only.
+unfoldable pub speedRow : ℕ → Row → Reckoned
+speedRow rate r = byStatus Unreckoned (speedOf rate (axisOf r)) (Unreckoned KIND) (statusOf r)

@@ -1,0 +1,55 @@
+// Speed by period.
+ghost use mathlib.Core.Path.{_≡_};
+ghost use Prim.Native.Nat.{max};
+ghost use Rattle.row_speed.specs.Speed.{signOf, speedOf, speedRow};
+use axis::row::Axis;
+use axis::row::Row;
+use axis_sound::Status;
+use axis_sound::open;
+use reckon::Reckoned;
+use refusal::Refusal;
+
+// One count, with the sign of a direction.
+fn sign(direction: u8) -> i64
+    ensures { λ r. ⌜ r ≡ signOf direction ⌝ }
+{
+    if direction == 2 { -1 } else { 1 }
+}
+
+// The larger of period and age.
+fn larger(period: u32, age: u32) -> u64
+    ensures { λ r. ⌜ r ≡ max period age ⌝ }
+{
+    if period < age {
+        return age as u64;
+    }
+    period as u64
+}
+
+// The speed of a sampled axis: VALUE, then NO PERIOD.
+fn by_period(a: Axis, rate: u64) -> Reckoned
+    ensures { λ r. ⌜ r ≡ speedOf rate a ⌝ }
+{
+    if !reckon::speed::is_rate(rate) {
+        return Reckoned::Refused(Refusal::Value);
+    }
+    if a.period == 0 {
+        return Reckoned::Refused(Refusal::NoPeriod);
+    }
+    reckon::speed::by_count(sign(a.direction), larger(a.period, a.age), rate)
+}
+
+// Speed by period, at a rate in samples a second.
+pub fn speed(r: Row, rate: u64) -> Reckoned
+    ensures { λ n. ⌜ n ≡ speedRow rate r ⌝ }
+{
+    let opened = open(r);
+    let status = opened.status;
+    let axis = opened.axis;
+    match status {
+        Status::Broken => Reckoned::Refused(Refusal::Broken),
+        Status::Empty => Reckoned::Refused(Refusal::Empty),
+        Status::Counter => Reckoned::Refused(Refusal::Kind),
+        Status::Sampled => by_period(axis, rate),
+    }
+}

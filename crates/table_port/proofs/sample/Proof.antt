@@ -1,0 +1,92 @@
+use Prim.Native.Nat.{ℕ, _+_, _-_, _*_, _≤_, _<_}
+use native.Mathlib.Omega.{arith}
+use mathlib.Core.Path.{_≡_, refl, sym, ap, _∙_}
+use mathlib.Core.List.{List}
+use lib.ListN.{length}
+use borrow.Author.Needs.{needs}
+use Rattle.table_port.specs.Port.{nibble, sampledTo, maskOf, masksTo}
+use Rattle.table_port.specs.declared.Masks.{Masks}
+use Rattle.table_rows.proofs.TableLaws.{axes-fit, axes-most}
+use Rattle.table_port.proofs.PortLaws.{length-sampledTo, masks-below, masks-next, table-next, sample-none, sample-all}
+use Rattle.table_port.proofs.sample.Statement.{statement}
+use Rattle.table_port.proofs.sample.Tie as tie
+
+-- What holds with k rows done.
+record Reached (t₀ : List ℕ) (port n : ℕ) (t : List ℕ) (m : Masks) (k : ℕ) : Type 0 where
+  within : k ≤ n
+  table : t ≡ sampledTo k t₀ (nibble port)
+  masks : m ≡ masksTo k t₀ (nibble port)
+
+abbrev Inv-loop : tie.InvT-loop
+Inv-loop table₀ port n masks₀ k₀ table masks k = Reached table₀ port n table masks k
+
+abbrev μ-loop : tie.MeasureT-loop
+μ-loop table₀ port n masks₀ k₀ table masks k = n - k
+
+axes-in-requires : tie.Need-axes-in-requires Inv-loop μ-loop
+axes-in-requires c κs = search needs
+
+returns-2 : tie.Need-returns-2 Inv-loop μ-loop
+returns-2 c =
+    let v = c .before .loop .inv in
+    let a = c .before .before .before .before .before .args in
+    let w = sample-all (a .table .now) (a .port) (c .before .loop .k) (omega arith) (omega arith) in
+    record { answer = cc (w .answer); table = v .table ∙ w .table }
+
+returns : tie.Need-returns Inv-loop μ-loop
+returns c = sample-none _ _ (sym (c .before .axes-in .ensures) ∙ c .if1 .taken)
+
+loop-holds : tie.Need-loop-holds Inv-loop μ-loop
+unfolding sampledTo masksTo maskOf
+loop-holds c = record { within = search needs; table = refl; masks = refl }
+
+module _ (c : tie.In-loop Inv-loop μ-loop) where
+  small : c .before .loop .k < 16
+  small = omega (arith, axes-most (length (c .before .before .before .before .before .args .table .now)))
+
+  inside : c .before .loop .k * 4 + 4 ≤ length (c .before .loop .table)
+  inside =
+      let a = c .before .before .before .before .before .args in
+      omega (
+        arith,
+        axes-fit (length (a .table .now)),
+        ap length (c .before .loop .inv .table) ∙ length-sampledTo (a .table .now) (nibble (a .port)) (c .before .loop .k),
+      )
+
+sample-row-requires : tie.Need-sample-row-requires Inv-loop μ-loop
+sample-row-requires c κs = (small (c .before), inside (c .before))
+
+note-requires : tie.Need-note-requires Inv-loop μ-loop
+note-requires c κs = (small (c .before .before .before .before), rw (c .before .before .before .before .before .loop .inv .masks) (masks-below _ _ _))
+
+add-k : tie.Need-add-k Inv-loop μ-loop
+add-k c = search needs
+
+loop-less : tie.Need-loop-less Inv-loop μ-loop
+loop-less c = search needs
+
+loop-again : tie.Need-loop-again Inv-loop μ-loop
+loop-again c =
+    let a = c .before .before .before .before .before .before .before .before .before .before .args in
+    let k = c .before .before .before .before .before .before .loop .k in
+    record { within = search needs; table = cc (table-next (a .table .now) (nibble (a .port)) k); masks = cc (masks-next (a .table .now) (nibble (a .port)) k) }
+
+same-length : tie.Need-same-length Inv-loop μ-loop
+same-length c = ap length (c .before .loop .inv .table) ∙ length-sampledTo _ _ _
+
+pub sample-spec : {M : Type 1} → statement M
+sample-spec =
+    tie.close
+    (tie.spec
+    Inv-loop
+    μ-loop
+    axes-in-requires
+    returns
+    loop-holds
+    sample-row-requires
+    note-requires
+    add-k
+    loop-less
+    loop-again
+    same-length
+    returns-2)

@@ -1,0 +1,12 @@
+use Rattle.table_rows.proofs.TableLaws.{axes-held, axes-none}
+use Rattle.table_rows.proofs.axes_in.Statement.{statement}
+use Rattle.table_rows.proofs.axes_in.Tie as tie
+
+returns : tie.Need-returns
+returns c = axes-held (c .before .args .len) (c .if1 .taken)
+
+returns-2 : tie.Need-returns-2
+returns-2 c = axes-none (c .before .args .len) (c .if1 .left)
+
+pub axes-in-spec : {M : Type 1} → statement M
+axes-in-spec = tie.close (tie.spec returns returns-2)
