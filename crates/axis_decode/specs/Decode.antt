@@ -7,9 +7,6 @@ use lib.ListN.{getD}
 use lib.IntN.{ℤ, pos, negsuc}
 use Rattle.fields.specs.Field.{bitOf}
 use Rattle.axis.specs.Kind.{X2, X4}
-use Rattle.axis.specs.declared.row.Axis.{Axis}
-use Rattle.axis_filter.specs.Lines.{Wire, A, B, line}
-use Rattle.axis_filter.specs.declared.Line.{Line}
 use Rattle.axis_decode.specs.declared.Move.{Move}
 use Rattle.axis_decode.specs.declared.Move.the-variants.{Still, Forward, Back, Double}
 
@@ -94,7 +91,3 @@ mark Still = pos 0
 mark Forward = pos 1
 mark Back = negsuc 0
 mark Double = pos 2
-
--- The entry of an axis whose filtered lines become n.
-unfoldable pub moveTo : Axis → (Wire → Line) → Move
-moveTo x n = entry (x .kind) (code (line x A .level) (line x B .level)) (code (n A .level) (n B .level))

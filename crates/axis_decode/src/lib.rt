@@ -1,11 +1,8 @@
 // The three transition tables, old code by new code.
 ghost use mathlib.Core.Path.{_≡_};
 ghost use Prim.Native.Nat.{_<_};
-ghost use Rattle.axis_filter.specs.Lines.{three};
-ghost use Rattle.axis_decode.specs.Decode.{code, entryIn, mark, isE, moveTo};
+ghost use Rattle.axis_decode.specs.Decode.{code, entryIn, entry, mark, isE};
 use axis::kind::Kind;
-use axis::row::Axis;
-use axis_filter::Lines;
 
 // An entry of a transition table.
 pub enum Move {
@@ -61,17 +58,14 @@ fn entry_at(kind: u8, at: usize) -> Move
     Move::Back
 }
 
-// The entry of an axis whose lines become n.
-pub fn move_to(x: Axis, n: Lines) -> Move
-    ensures { λ r. ⌜ r ≡ moveTo x (three n) ⌝ }
+// The entry of A and B, from their old levels to the new ones.
+pub fn move_between(kind: u8, a0: bool, b0: bool, a1: bool, b1: bool) -> Move
+    ensures { λ r. ⌜ r ≡ entry kind (code a0 b0) (code a1 b1) ⌝ }
 {
-    let levels = x.levels;
-    let a = n.a;
-    let b = n.b;
-    let old = code_of(levels[0], levels[1]);
-    let new = code_of(a.level, b.level);
+    let old = code_of(a0, b0);
+    let new = code_of(a1, b1);
     let at = (4 * old + new) as usize;
-    entry_at(x.kind, at)
+    entry_at(kind, at)
 }
 
 // Whether an entry is a double step.

@@ -1,10 +1,10 @@
 -- The filter: document 01, "A port sample", Filter.
 use Prim.Native.Nat.{ℕ, _+_, _<_}
 use mathlib.Core.Bool.{Bool, cond, not, Bool·beq}
+use mathlib.Core.List.{List}
 use lib.Dec.{eqb}
 use lib.ListN.{getD}
-use Rattle.axis.specs.declared.row.Axis.{Axis}
-use Rattle.axis_filter.specs.Lines.{Wire, A, B, Z, levelOf, line}
+use Rattle.axis_filter.specs.Lines.{lineIn}
 use Rattle.axis_filter.specs.declared.Line.{Line}
 use Rattle.axis_filter.specs.declared.Lines.{Lines}
 use Rattle.axis_filter.specs.declared.Raw.{Raw}
@@ -16,16 +16,16 @@ filterLine d l raw =
     (cond (eqb (l .run + 1) d) (record { level = not (l .level); run = 0 })
     (record { level = l .level; run = l .run + 1 }))
 
--- The filtered lines of an axis after a sample.
-unfoldable pub filtered : Axis → Raw → Wire → Line
-filtered x s w = filterLine (x .depth) (line x w) (levelOf s w)
+-- The three lines at depth d after a sample.
+abbrev pub filterLines : ℕ → List Bool → List ℕ → Raw → Lines
+filterLines d levels runs s = record {
+  a = filterLine d (lineIn levels runs 0) (s .a);
+  b = filterLine d (lineIn levels runs 1) (s .b);
+  z = filterLine d (lineIn levels runs 2) (s .z);
+}
 
--- The three of them together.
-abbrev pub linesBy : Axis → Raw → Lines
-linesBy x s = record { a = filtered x s A; b = filtered x s B; z = filtered x s Z }
-
--- Each run is below the depth.
-pub record Short (x : Axis) : Type 0 where
-  pub runA : getD (x .runs) 0 0 < x .depth
-  pub runB : getD (x .runs) 1 0 < x .depth
-  pub runZ : getD (x .runs) 2 0 < x .depth
+-- Each of three runs is below a depth.
+pub record Short (runs : List ℕ) (depth : ℕ) : Type 0 where
+  pub runA : getD runs 0 0 < depth
+  pub runB : getD runs 1 0 < depth
+  pub runZ : getD runs 2 0 < depth

@@ -1,9 +1,9 @@
--- The three lines of an axis and the raw levels of a sample: document 01, "A port sample".
+-- The three lines and the raw levels of a sample: document 01, "A port sample".
 use Prim.Native.Nat.{ℕ}
 use mathlib.Core.Bool.{Bool, false}
+use mathlib.Core.List.{List}
 use lib.ListN.{getD}
 use Rattle.fields.specs.Field.{flagOf}
-use Rattle.axis.specs.declared.row.Axis.{Axis}
 use Rattle.axis_filter.specs.declared.Line.{Line}
 use Rattle.axis_filter.specs.declared.Lines.{Lines}
 use Rattle.axis_filter.specs.declared.Raw.{Raw}
@@ -13,7 +13,7 @@ pub data Wire : Type 0 where
   A B Z : Wire
   deriving Discrete as Wire-discrete
 
--- The place of a line in an axis's levels and runs.
+-- The place of a line among three levels and three runs.
 unfoldable pub placeOf : Wire → ℕ
 placeOf A = 0
 placeOf B = 1
@@ -29,9 +29,9 @@ levelOf s A = s .a
 levelOf s B = s .b
 levelOf s Z = s .z
 
--- A line as an axis has it.
-unfoldable pub line : Axis → Wire → Line
-line x w = record { level = getD (x .levels) (placeOf w) false; run = getD (x .runs) (placeOf w) 0 }
+-- The line at a place of three levels and three runs.
+abbrev pub lineIn : List Bool → List ℕ → ℕ → Line
+lineIn levels runs place = record { level = getD levels place false; run = getD runs place 0 }
 
 -- Three lines, by name.
 unfoldable pub three : Lines → Wire → Line

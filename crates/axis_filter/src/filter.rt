@@ -1,53 +1,37 @@
 // The filter: one depth, and a run for each of the three lines.
 ghost use mathlib.Core.Path.{_≡_};
 ghost use Prim.Native.Nat.{_<_};
-ghost use Rattle.axis_filter.specs.Filter.{filterLine, linesBy, Short};
+ghost use Rattle.axis_filter.specs.Filter.{filterLine, filterLines, Short};
 use crate::Line;
 use crate::Lines;
 use crate::Raw;
-use axis::row::Axis;
 
-// One line after a sample.
-fn filter_line(l: Line, raw: bool, depth: u8) -> Line
-    requires { ⌜ l .run < depth ⌝ }
-    ensures { λ r. ⌜ r ≡ filterLine depth l raw ⌝ }
+// A line after a sample, by its level and its run before it.
+fn filter_line(depth: u8, level: bool, run: u8, raw: bool) -> Line
+    requires { ⌜ run < depth ⌝ }
+    ensures { λ r. ⌜ r ≡ filterLine depth (record { level = level; run = run }) raw ⌝ }
 {
-    let level = l.level;
     if raw == level {
         return Line { level, run: 0 };
     }
-    let run = l.run + 1;
-    if run == depth {
+    let longer = run + 1;
+    if longer == depth {
         return Line {
             level: !level,
             run: 0,
         };
     }
-    Line { level, run }
+    Line { level, run: longer }
 }
 
-// The three lines of an axis after a sample.
-pub fn filter(x: Axis, s: Raw) -> Lines
-    requires { ⌜ Short x ⌝ }
-    ensures { λ r. ⌜ r ≡ linesBy x s ⌝ }
+// The three lines after a sample, by their levels and runs before it.
+pub fn filter(depth: u8, levels: [bool; 3], runs: [u8; 3], s: Raw) -> Lines
+    requires { ⌜ Short runs depth ⌝ }
+    ensures { λ r. ⌜ r ≡ filterLines depth levels runs s ⌝ }
 {
-    let levels = x.levels;
-    let runs = x.runs;
-    let a = Line {
-        level: levels[0],
-        run: runs[0],
-    };
-    let b = Line {
-        level: levels[1],
-        run: runs[1],
-    };
-    let z = Line {
-        level: levels[2],
-        run: runs[2],
-    };
     Lines {
-        a: filter_line(a, s.a, x.depth),
-        b: filter_line(b, s.b, x.depth),
-        z: filter_line(z, s.z, x.depth),
+        a: filter_line(depth, levels[0], runs[0], s.a),
+        b: filter_line(depth, levels[1], runs[1], s.b),
+        z: filter_line(depth, levels[2], runs[2], s.z),
     }
 }

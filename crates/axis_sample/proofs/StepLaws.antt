@@ -4,10 +4,10 @@ use mathlib.Core.Bool.{Bool, true, false, _&&_, and-true, and-false, or-true, or
 use lib.IntN.{_+ℤ_}
 use Rattle.position.specs.Position.{positionOf}
 use Rattle.axis.specs.declared.row.Axis.{Axis}
-use Rattle.axis_filter.specs.Lines.{Wire, A, B, Z, placeOf, levelOf, line, three}
-use Rattle.axis_filter.specs.Filter.{filtered, linesBy}
-use Rattle.axis_decode.specs.Decode.{isE, moveTo, worth}
-use Rattle.axis_motion.specs.Index.{rises}
+use Rattle.axis_filter.specs.Lines.{Wire, A, B, Z, placeOf, levelOf, three}
+use Rattle.axis_filter.specs.Filter.{filterLines}
+use Rattle.axis_decode.specs.Decode.{isE, worth}
+use Rattle.axis_sample.specs.Lines.{line, filtered, moveTo, rises}
 use Rattle.axis_sample.specs.Step.{primedBy, settle, moveOf, zRose, advanced, outcome, stepAxis}
 use Rattle.axis_sample.specs.After.{Configured, Primed, Entered, Moved, Homed}
 use Rattle.axis_filter.specs.declared.Line.{Line}
@@ -16,11 +16,11 @@ use Rattle.axis_filter.specs.declared.Raw.{Raw}
 use Rattle.axis_motion.proofs.CountLaws.{counted}
 
 -- Three lines that are read by name are those lines.
-pub lines-are : (x : Axis) (s : Raw) {n : Lines} → n ≡ linesBy x s → three n ≡ filtered x s
-unfolding three
+pub lines-are : (x : Axis) (s : Raw) {n : Lines} → n ≡ filterLines (x .depth) (x .levels) (x .runs) s → three n ≡ filtered x s
+unfolding three filtered line placeOf levelOf
 lines-are x s e = ap three e ∙ (λ i w. go w i)
   where
-    go : (w : Wire) → three (linesBy x s) w ≡ filtered x s w
+    go : (w : Wire) → three (filterLines (x .depth) (x .levels) (x .runs) s) w ≡ filtered x s w
     go A = refl
     go B = refl
     go Z = refl

@@ -1,14 +1,6 @@
-use Rattle.axis_filter.specs.Lines.{line, placeOf, three}
-use Rattle.axis_decode.specs.Decode.{moveTo}
 use borrow.Author.Needs.{needs}
-use Rattle.axis_decode.proofs.move_to.Statement.{statement}
-use Rattle.axis_decode.proofs.move_to.Tie as tie
-
-array-read-code-of : tie.Need-array-read-code-of
-array-read-code-of c = search needs
-
-array-read-code-of-2 : tie.Need-array-read-code-of-2
-array-read-code-of-2 c = search needs
+use Rattle.axis_decode.proofs.move_between.Statement.{statement}
+use Rattle.axis_decode.proofs.move_between.Tie as tie
 
 code-of-requires : tie.Need-code-of-requires
 code-of-requires c κs = search needs
@@ -26,15 +18,12 @@ entry-at-requires : tie.Need-entry-at-requires
 entry-at-requires c κs = search needs
 
 returns : tie.Need-returns
-unfolding moveTo line placeOf three
 returns c = rw (c .entry-at .ensures, c .before .before .code-of .ensures .0, c .before .code-of2 .ensures .0)
 
-pub move-to-spec : {M : Type 1} → statement M
-move-to-spec =
+pub move-between-spec : {M : Type 1} → statement M
+move-between-spec =
     tie.close
     (tie.spec
-    array-read-code-of
-    array-read-code-of-2
     code-of-requires
     code-of-requires-2
     mul-at
