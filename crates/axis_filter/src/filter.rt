@@ -6,32 +6,33 @@ use crate::Line;
 use crate::Lines;
 use crate::Raw;
 
-// A line after a sample, by its level and its run before it.
-fn filter_line(depth: u8, level: bool, run: u8, raw: bool) -> Line
-    requires { ⌜ run < depth ⌝ }
-    ensures { λ r. ⌜ r ≡ filterLine depth (record { level = level; run = run }) raw ⌝ }
+// A line after a sample.
+fn filter_line(depth: u8, l: Line, raw: bool) -> Line
+    requires { ⌜ l .run < depth ⌝ }
+    ensures { λ r. ⌜ r ≡ filterLine depth l raw ⌝ }
 {
+    let level = l.level;
     if raw == level {
         return Line { level, run: 0 };
     }
-    let longer = run + 1;
-    if longer == depth {
+    let run = l.run + 1;
+    if run == depth {
         return Line {
             level: !level,
             run: 0,
         };
     }
-    Line { level, run: longer }
+    Line { level, run }
 }
 
-// The three lines after a sample, by their levels and runs before it.
-pub fn filter(depth: u8, levels: [bool; 3], runs: [u8; 3], s: Raw) -> Lines
-    requires { ⌜ Short runs depth ⌝ }
-    ensures { λ r. ⌜ r ≡ filterLines depth levels runs s ⌝ }
+// The three lines after a sample.
+pub fn filter(depth: u8, l: Lines, s: Raw) -> Lines
+    requires { ⌜ Short depth l ⌝ }
+    ensures { λ r. ⌜ r ≡ filterLines depth l s ⌝ }
 {
     Lines {
-        a: filter_line(depth, levels[0], runs[0], s.a),
-        b: filter_line(depth, levels[1], runs[1], s.b),
-        z: filter_line(depth, levels[2], runs[2], s.z),
+        a: filter_line(depth, l.a, s.a),
+        b: filter_line(depth, l.b, s.b),
+        z: filter_line(depth, l.z, s.z),
     }
 }

@@ -1,17 +1,34 @@
 -- What the filter, the tables and the index line make of an axis and a sample: document 01, "A port sample".
-use mathlib.Core.Bool.{Bool}
+use Prim.Native.Nat.{ℕ}
+use mathlib.Core.Bool.{Bool, false}
+use lib.ListN.{getD}
 use Rattle.axis.specs.declared.row.Axis.{Axis}
-use Rattle.axis_filter.specs.Lines.{Wire, A, B, Z, placeOf, levelOf, lineIn}
+use Rattle.axis_filter.specs.Lines.{Wire, A, B, Z, levelOf}
 use Rattle.axis_filter.specs.Filter.{filterLine}
 use Rattle.axis_filter.specs.declared.Line.{Line}
+use Rattle.axis_filter.specs.declared.Lines.{Lines}
 use Rattle.axis_filter.specs.declared.Raw.{Raw}
 use Rattle.axis_decode.specs.Decode.{code, entry}
 use Rattle.axis_decode.specs.declared.Move.{Move}
 use Rattle.axis_motion.specs.Index.{risesTo}
 
+-- The line at a place of an axis's levels and runs.
+abbrev pub lineIn : Axis → ℕ → Line
+lineIn x place = record { level = getD (x .levels) place false; run = getD (x .runs) place 0 }
+
+-- The three lines of an axis.
+abbrev pub linesOf : Axis → Lines
+linesOf x = record { a = lineIn x 0; b = lineIn x 1; z = lineIn x 2 }
+
+-- The place of each.
+unfoldable pub placeOf : Wire → ℕ
+placeOf A = 0
+placeOf B = 1
+placeOf Z = 2
+
 -- A line as an axis has it.
 unfoldable pub line : Axis → Wire → Line
-line x w = lineIn (x .levels) (x .runs) (placeOf w)
+line x w = lineIn x (placeOf w)
 
 -- The filtered lines of an axis after a sample.
 unfoldable pub filtered : Axis → Raw → Wire → Line

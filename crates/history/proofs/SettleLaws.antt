@@ -4,9 +4,9 @@ use mathlib.Core.Bool.{true, _&&_}
 use mathlib.Core.List.{List, [], _∷_}
 use Rattle.position.specs.Position.{inRange, wordOf, positionOf}
 use Rattle.axis.specs.declared.row.Axis.{Axis}
-use Rattle.axis_filter.specs.Lines.{Wire, A, B, Z, placeOf}
+use Rattle.axis_filter.specs.Lines.{Wire, A, B, Z}
 use Rattle.axis_decode.specs.Decode.{entry, isE}
-use Rattle.axis_sample.specs.Lines.{line, filtered, moveTo, rises}
+use Rattle.axis_sample.specs.Lines.{placeOf, line, filtered, moveTo, rises}
 use Rattle.axis_motion.specs.Count.{countedWord}
 use Rattle.axis_sample.specs.Step.{settle, outcome}
 use Rattle.axis_decode.specs.declared.Move.{Move}

@@ -8,12 +8,6 @@ code-of-requires c κs = search needs
 code-of-requires-2 : tie.Need-code-of-requires-2
 code-of-requires-2 c κs = search needs
 
-mul-at : tie.Need-mul-at
-mul-at c = search needs
-
-add-at : tie.Need-add-at
-add-at c = search needs
-
 entry-at-requires : tie.Need-entry-at-requires
 entry-at-requires c κs = search needs
 
@@ -22,11 +16,4 @@ returns c = rw (c .entry-at .ensures, c .before .before .code-of .ensures .0, c 
 
 pub move-between-spec : {M : Type 1} → statement M
 move-between-spec =
-    tie.close
-    (tie.spec
-    code-of-requires
-    code-of-requires-2
-    mul-at
-    add-at
-    entry-at-requires
-    returns)
+    tie.close (tie.spec code-of-requires code-of-requires-2 entry-at-requires returns)

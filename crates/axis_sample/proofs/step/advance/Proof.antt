@@ -1,13 +1,16 @@
-use Rattle.axis_filter.specs.Lines.{placeOf, three}
-use Rattle.axis_sample.specs.Lines.{line, moveTo, rises}
+use Rattle.axis_filter.specs.Lines.{three}
+use Rattle.axis_sample.specs.Lines.{placeOf, line, moveTo, rises}
 use Rattle.axis_sample.specs.Step.{outcome}
 use Rattle.axis_sample.proofs.StepLaws.{lines-are}
 use borrow.Author.Needs.{needs}
 use Rattle.axis_sample.proofs.step.advance.Statement.{statement}
 use Rattle.axis_sample.proofs.step.advance.Tie as tie
 
+lines-of-requires : tie.Need-lines-of-requires
+lines-of-requires c κs = search needs
+
 filter-requires : tie.Need-filter-requires
-filter-requires c κs = search needs
+filter-requires c κs = rw (c .lines-of .ensures) (c .before .before .pre)
 
 array-read-move-between : tie.Need-array-read-move-between
 array-read-move-between c = search needs
@@ -34,20 +37,22 @@ is-double-requires c κs = search needs
 returns : tie.Need-returns
 unfolding outcome
 returns c =
-    let start = c .before .before .before .before .before .before .before in
+    let f = c .before .before .before .before in
+    let start = f .before .before .before in
     let known = settled-requires (c .before .before) _ in
     rw (
       c .before .settled .ensures,
       c .is-double .ensures,
       known .0,
       known .1,
-      lines-are (start .args .x) (start .args .s) (c .before .before .before .before .filter .ensures),
+      lines-are (start .args .x) (start .args .s) (rw (f .before .lines-of .ensures) at (f .filter .ensures)),
     )
 
 pub advance-spec : {M : Type 1} → statement M
 advance-spec =
     tie.close
     (tie.spec
+    lines-of-requires
     filter-requires
     array-read-move-between
     array-read-move-between-2
