@@ -4,16 +4,19 @@ use mathlib.Core.Path.{_≡_, refl, ap}
 use mathlib.Core.Bool.{Bool, true, false}
 use lib.IntN.{natAbs}
 use Rattle.fields.specs.Field.{bitOf}
+use Rattle.reckon.specs.declared.Reckoned.{Reckoned}
+use Rattle.reckon.proofs.ReckonedLaws.{reckoned-apart}
+use Rattle.record.specs.declared.answer.Tested.{Tested}
 use Rattle.record.specs.declared.answer.Written.{Written}
-use Rattle.record.proofs.AnswerLaws.{save-told}
+use Rattle.record.proofs.AnswerLaws.{test-told, save-told}
 use Rattle.row_calls.specs.Answer.{viewValue}
 use Rattle.row_calls.specs.declared.answer.Done.{Done}
 use Rattle.row_calls.specs.declared.answer.Viewed.{Viewed}
 use Rattle.row_calls.proofs.AnswerLaws.{done-told, view-told}
 use Rattle.table_port.specs.declared.Sampled.{Sampled}
 use Rattle.table_port.proofs.AnswerLaws.{sample-told}
-use Rattle.host.specs.declared.answer.Answer.{Answer}
-use Rattle.host_answers.specs.Answer.{answerDone, answerWritten, answerSampled, answerView}
+use Rattle.host_answers.specs.declared.answer.Answer.{Answer}
+use Rattle.host_answers.specs.Answer.{answerTo, answerTest, answerDone, answerWritten, answerSampled, answerView}
 use Rattle.host_answers.specs.declared.sampled.SampledAnswer.{SampledAnswer}
 use Rattle.host_answers.specs.declared.view.ViewAnswer.{ViewAnswer}
 
@@ -23,7 +26,18 @@ bit-apart true false e = absurd (omega arith)
 bit-apart false true e = absurd (omega arith)
 bit-apart false false e = refl
 
--- HEADLINE: two calls that say only that they were done, and look the same to C, had the same answer.
+-- HEADLINE: two calculations that look the same to C had the same answer.
+pub answer-apart : (a b : Reckoned) → answerTo a ≡ answerTo b → a ≡ b
+unfolding answerTo
+answer-apart a b e =
+    reckoned-apart a b (ap (λ (x : Answer). x .refusal) e) (ap (λ (x : Answer). x .found) e) (ap (λ (x : Answer). x .value) e)
+
+-- HEADLINE: so did two record tests.
+pub test-apart : (a b : Tested) → answerTest a ≡ answerTest b → a ≡ b
+unfolding answerTest
+test-apart a b e = test-told a b (ap (λ (x : Answer). x .refusal) e) (ap (λ (x : Answer). x .found) e)
+
+-- HEADLINE: so did two calls that say only that they were done.
 pub done-apart : (a b : Done) → answerDone a ≡ answerDone b → a ≡ b
 unfolding answerDone
 done-apart a b e = done-told a b (ap (λ (x : Answer). x .refusal) e) (ap (λ (x : Answer). x .found) e)

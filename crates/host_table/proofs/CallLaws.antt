@@ -6,9 +6,8 @@ use Rattle.refusal.proofs.OutcomeLaws.{one}
 use Rattle.axis.specs.declared.row.Row.{Row}
 use Rattle.row_calls.specs.declared.answer.Changed.{Changed}
 use Rattle.table.specs.Call.{viewedIn, speedIn}
-use Rattle.host.specs.Answer.{answerTo}
-use Rattle.host.specs.declared.answer.Answer.{Answer}
-use Rattle.host_answers.specs.Answer.{answerView}
+use Rattle.host_answers.specs.declared.answer.Answer.{Answer}
+use Rattle.host_answers.specs.Answer.{answerTo, answerView}
 use Rattle.host_table.specs.Call.{Leaves, SamplesToC, MakesToC, ReadsToC, SavesToC}
 use Rattle.host_answers.specs.declared.sampled.SampledAnswer.{SampledAnswer}
 use Rattle.host_answers.specs.declared.view.ViewAnswer.{ViewAnswer}

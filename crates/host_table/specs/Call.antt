@@ -11,9 +11,8 @@ use Rattle.row_calls.specs.declared.answer.Changed.{Changed}
 use Rattle.table_rows.specs.Located.{located, onFound}
 use Rattle.table_port.specs.Port.{sampledTable, sampledAnswer}
 use Rattle.table.specs.Call.{ruled, tableAfter, readIn, saveIn}
-use Rattle.host.specs.Answer.{answerTo}
-use Rattle.host.specs.declared.answer.Answer.{Answer}
-use Rattle.host_answers.specs.Answer.{answerDone, answerWritten, answerSampled}
+use Rattle.host_answers.specs.declared.answer.Answer.{Answer}
+use Rattle.host_answers.specs.Answer.{answerTo, answerDone, answerWritten, answerSampled}
 use Rattle.host_answers.specs.declared.sampled.SampledAnswer.{SampledAnswer}
 
 -- What a call that may write a slice promises: it answers `said`, and the slice holds `left` afterwards.

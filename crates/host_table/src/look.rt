@@ -1,10 +1,9 @@
 // View, and speed by period: the calls that only look.
 ghost use mathlib.Core.Path.{_≡_};
-ghost use Rattle.host.specs.Answer.{answerTo};
 ghost use Rattle.table.specs.Call.{viewedIn, speedIn};
-ghost use Rattle.host_answers.specs.Answer.{answerView};
-use host::answer::Answer;
-use host::answer::of_reckoned;
+ghost use Rattle.host_answers.specs.Answer.{answerTo, answerView};
+use host_answers::answer::Answer;
+use host_answers::answer::of_reckoned;
 use host_answers::view::ViewAnswer;
 use host_answers::view::of_viewed;
 

@@ -1,4 +1,4 @@
-use Rattle.host.specs.Answer.{answerTo}
+use Rattle.host_answers.specs.Answer.{answerTo}
 use Rattle.host_table.proofs.CallLaws.{shows}
 use borrow.Author.Needs.{needs}
 use Rattle.host_table.proofs.reading.ubrenchip_reading.Statement.{statement}
