@@ -8,7 +8,7 @@ use Rattle.record.specs.Record.{testedAs}
 use Rattle.host_answers.specs.Answer.{answerTo, answerTest}
 use Rattle.host_answers.specs.declared.answer.Answer.{Answer}
 
--- HEADLINE: ubrenchip_widen and ubrenchip_speed_by_count.
+-- HEADLINE: ubrenchip_widen, and ubrenchip_speed_by_count, which answers as a calculation of its speed's number does.
 pub host-reckoned-one : (a : Reckoned) (r s : Answer) → r ≡ answerTo a → s ≡ answerTo a → r ≡ s
 host-reckoned-one a r s = one
 

@@ -4,7 +4,9 @@ use Rattle.refusal.specs.Refusal.{numberOf, foundIn}
 use Rattle.refusal.specs.declared.Refusal.{Refusal}
 use Rattle.fields.specs.Field.{bitOf}
 use Rattle.reckon.specs.Reckoned.{refusalIn, foundBy, valueIn}
+use Rattle.reckon.specs.Speed.{speedNumber}
 use Rattle.reckon.specs.declared.Reckoned.{Reckoned}
+use Rattle.reckon.specs.declared.speed.Speed.{Speed}
 use Rattle.record.specs.Answer.{testedNumber, testedFound, writtenNumber, writtenFound, writtenBytes}
 use Rattle.record.specs.declared.answer.Tested.{Tested}
 use Rattle.record.specs.declared.answer.Written.{Written}
@@ -28,6 +30,10 @@ answerRefused e = record { refusal = numberOf e; found = foundIn e; value = pos 
 -- The paper's number, found number and value of a calculation's answer.
 unfoldable pub answerTo : Reckoned → Answer
 answerTo a = record { refusal = refusalIn a; found = foundBy a; value = valueIn a }
+
+-- What a speed answers: as a calculation of its number does.
+abbrev pub answerSpeed : Speed → Answer
+answerSpeed s = answerTo (speedNumber s)
 
 -- The paper's number and found number of a record test's answer, which has no value.
 unfoldable pub answerTest : Tested → Answer

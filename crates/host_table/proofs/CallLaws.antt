@@ -7,7 +7,7 @@ use Rattle.axis.specs.declared.row.Row.{Row}
 use Rattle.row_calls.specs.declared.answer.Changed.{Changed}
 use Rattle.table.specs.Call.{viewedIn, speedIn}
 use Rattle.host_answers.specs.declared.answer.Answer.{Answer}
-use Rattle.host_answers.specs.Answer.{answerTo, answerView}
+use Rattle.host_answers.specs.Answer.{answerSpeed, answerView}
 use Rattle.host_table.specs.Call.{Leaves, SamplesToC, MakesToC, ReadsToC, SavesToC}
 use Rattle.host_answers.specs.declared.sampled.SampledAnswer.{SampledAnswer}
 use Rattle.host_answers.specs.declared.view.ViewAnswer.{ViewAnswer}
@@ -41,5 +41,5 @@ pub look-one : (t : List ℕ) (k : ℕ) (a b : ViewAnswer) → a ≡ answerView 
 look-one t k a b p q = one p q
 
 -- ubrenchip_speed_by_period
-pub speed-one : (rate : ℕ) (t : List ℕ) (k : ℕ) (a b : Answer) → a ≡ answerTo (speedIn rate t k) → b ≡ answerTo (speedIn rate t k) → a ≡ b
+pub speed-one : (rate : ℕ) (t : List ℕ) (k : ℕ) (a b : Answer) → a ≡ answerSpeed (speedIn rate t k) → b ≡ answerSpeed (speedIn rate t k) → a ≡ b
 speed-one rate t k a b p q = one p q

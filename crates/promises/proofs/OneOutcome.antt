@@ -6,11 +6,12 @@ use Rattle.refusal.proofs.OutcomeLaws.{one}
 use Rattle.reckon.specs.Widening.{widened}
 use Rattle.reckon.specs.Speed.{speedByCount}
 use Rattle.reckon.specs.declared.Reckoned.{Reckoned}
+use Rattle.reckon.specs.declared.speed.Speed.{Speed}
 
 -- HEADLINE: reckon::widening::widen.
 pub widen-one : (width : ℕ) (position : ℤ) (reading : ℕ) (r s : Reckoned) → r ≡ widened width position reading → s ≡ widened width position reading → r ≡ s
 widen-one width position reading r s = one
 
 -- HEADLINE: reckon::speed::by_count.
-pub by-count-one : (difference : ℤ) (samples rate : ℕ) (r s : Reckoned) → r ≡ speedByCount difference samples rate → s ≡ speedByCount difference samples rate → r ≡ s
+pub by-count-one : (difference : ℤ) (samples rate : ℕ) (r s : Speed) → r ≡ speedByCount difference samples rate → s ≡ speedByCount difference samples rate → r ≡ s
 by-count-one difference samples rate r s = one

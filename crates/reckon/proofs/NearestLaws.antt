@@ -16,7 +16,7 @@ use Rattle.refusal.specs.declared.Refusal.{Refusal}
 use Rattle.refusal.specs.declared.Refusal.the-variants.{Value, Half, Range}
 use Rattle.reckon.specs.declared.Reckoned.{Reckoned}
 use Rattle.reckon.specs.declared.Reckoned.the-variants.{Number, Refused}
-use Rattle.reckon.specs.Widening.{goodWidth, goodReading, within, nearestTo, widened}
+use Rattle.reckon.specs.Widening.{goodWidth, goodReading, orRange, nearestTo, widened}
 use Rattle.reckon.specs.Nearest.{Nearest, Verdict, value, half, range, at}
 use Rattle.reckon.proofs.WideningLaws.{good-is, good-from, accepted}
 
@@ -59,11 +59,11 @@ module _ (w : ℕ) (W p : ℤ) where
 
 -- ---- what `nearestTo` gives at a distance ahead
 
-below-half : (m : ℕ) (W p : ℤ) (d : ℕ) → 2 * d < m → W +ℤ pos d ≡ p → nearestTo m W d ≡ within p
+below-half : (m : ℕ) (W p : ℤ) (d : ℕ) → 2 * d < m → W +ℤ pos d ≡ p → nearestTo m W d ≡ orRange p
 unfolding nearestTo
 below-half m W p d h e = rw (lt-ltb (2 * d) m h, e)
 
-above-half : (m : ℕ) (W p : ℤ) (d : ℕ) → m < 2 * d → (W +ℤ pos d) -ℤ pos m ≡ p → nearestTo m W d ≡ within p
+above-half : (m : ℕ) (W p : ℤ) (d : ℕ) → m < 2 * d → (W +ℤ pos d) -ℤ pos m ≡ p → nearestTo m W d ≡ orRange p
 unfolding nearestTo
 above-half m W p d h e = rw (le-ltb (2 * d) m (omega arith), ne-eqb (2 * d) m (λ q. omega arith), e)
 
@@ -81,16 +81,16 @@ module _ (w : ℕ) (W p : ℤ) (good : goodReading w W (modZ p (2 ^ w)) ≡ true
   near-is : nearestTo (2 ^ w) W (ahead w W p) ≡ widened w W (modZ p (2 ^ w))
   near-is = accepted w W (modZ p (2 ^ w)) good
 
-  near-position : 2 * natAbs (p -ℤ W) < 2 ^ w → widened w W (modZ p (2 ^ w)) ≡ within p
+  near-position : 2 * natAbs (p -ℤ W) < 2 ^ w → widened w W (modZ p (2 ^ w)) ≡ orRange p
   near-position near = sym near-is ∙ ⊎-elim up down (abs-cases p W)
     where
-      up : plus p + minus W ≡ t w W p + (plus W + minus p) → nearestTo (2 ^ w) W (ahead w W p) ≡ within p
+      up : plus p + minus W ≡ t w W p + (plus W + minus p) → nearestTo (2 ^ w) W (ahead w W p) ≡ orRange p
       up e = rw (forth w W p e (omega arith)) (below-half (2 ^ w) W p (t w W p) near (eqZ _ _ (omega (arith, bal-add W (pos (t w W p))))))
 
-      down : plus W + minus p ≡ t w W p + (plus p + minus W) → nearestTo (2 ^ w) W (ahead w W p) ≡ within p
+      down : plus W + minus p ≡ t w W p + (plus p + minus W) → nearestTo (2 ^ w) W (ahead w W p) ≡ orRange p
       down e = ⊎-elim (λ z. up (omega arith)) on (some-or-none (t w W p))
         where
-          on : 0 < t w W p → nearestTo (2 ^ w) W (ahead w W p) ≡ within p
+          on : 0 < t w W p → nearestTo (2 ^ w) W (ahead w W p) ≡ orRange p
           on z =
               rw (back w W p e z (omega arith))
               (above-half (2 ^ w) W p (2 ^ w - t w W p) (omega arith)
@@ -136,7 +136,7 @@ module _ (w : ℕ) (W : ℤ) (r : ℕ) (good : goodReading w W r ≡ true) where
 
   -- from such a value to the verdict, by whether it is in the range
   settled : (p : ℤ) → modZ p (2 ^ w) ≡ r → 2 * natAbs (p -ℤ W) < 2 ^ w → Verdict w W r (widened w W r)
-  unfolding within
+  unfolding orRange
   settled p b l = go (test (inRange p)) (rw b at (near-position w W p (rw b good) l))
     where
       go : Tested (inRange p) → widened w W r ≡ cond (inRange p) (Number p) (Refused Range) → Verdict w W r (widened w W r)
@@ -167,7 +167,7 @@ verdict w W r = go (test (goodReading w W r))
 
 -- HEADLINE: and wherever a reason holds, its answer is given.
 pub verdict-only : (w : ℕ) (W : ℤ) (r : ℕ) (a : Reckoned) → Verdict w W r a → widened w W r ≡ a
-unfolding widened within
+unfolding widened orRange
 verdict-only w W r a (value g e) = rw g (sym e)
 verdict-only w W r a (half g p b h e) = rw b at (half-position w W p (rw b g) h) ∙ sym e
 verdict-only w W r a (range g p b l i e) = rw (b, i) at (near-position w W p (rw b g) l) ∙ sym e
@@ -179,7 +179,7 @@ module _ (w : ℕ) (W p : ℤ) (wide : goodWidth w ≡ true) (okW : inRange W �
 
   -- HEADLINE: where the true position p lies in the range and less than half a turn from W, its low bits widen to it, below zero too.
   pub true-position : inRange p ≡ true → 2 * natAbs (p -ℤ W) < 2 ^ w → widened w W (modZ p (2 ^ w)) ≡ Number p
-  unfolding within
+  unfolding orRange
   true-position ok near = rw ok at (near-position w W p good-low near)
 
   -- HEADLINE: exactly half a turn is HALF, whichever way the shaft turned, near the limits of the range and beyond them too.

@@ -1,5 +1,5 @@
 -- How near a speed is to what it stands for.
-use mathlib.Core.Path.{_≡_, ap, _∙_}
+use mathlib.Core.Path.{_≡_, sym, ap, _∙_}
 use mathlib.Core.Bool.{true, false, _&&_, and-eq-true-iff}
 use mathlib.Core.Logic.{⊎-elim}
 use Prim.Native.Nat.{ℕ, suc, _+_, _*_, _-_, _^_, _≤_, _<_}
@@ -10,11 +10,27 @@ use lib.Dec.{ltb, leb}
 use lib.IntN.{ℤ, pos, natAbs, _-ℤ_, _*ℤ_}
 use Rattle.integers.specs.Integer.{plus, minus, modZ, floorZ}
 use Rattle.integers.proofs.Balance.{Tested, yes, no, test, abs-is, sign, bal-sub, bal-scale, modZ-lt, floor-is}
+use Rattle.refusal.specs.declared.Refusal.{Refusal}
 use Rattle.refusal.specs.declared.Refusal.the-variants.{Value}
-use Rattle.reckon.specs.declared.Reckoned.the-variants.{Number, Refused}
+use Rattle.reckon.specs.declared.speed.Speed.{Speed}
+use Rattle.reckon.specs.declared.speed.Speed.the-variants.{Of, Refused}
 use Rattle.reckon.specs.Rounding.{rounded}
-use Rattle.reckon.specs.Speed.{goodCount, goodSamples, goodRate, speedByCount, countedFrom, angleBound}
+use Rattle.reckon.specs.Speed.{speedNumber, goodCount, goodSamples, goodRate, speedByCount, countedFrom, angleBound}
+use Rattle.reckon.proofs.ReckonedLaws.{refused-not}
 use Rattle.reckon.proofs.RoundingLaws.{twice, rounds}
+
+-- ---- a speed and its number
+
+-- What is refused is no speed.
+pub unsped-not : (v : ℤ) (e : Refusal) → Refused e ≡ Of v → ⊥
+unsped-not v e h = refused-not v e (ap speedNumber h)
+
+-- HEADLINE: two speeds with one number, or one refusal, are one speed.
+pub speed-one-number : (a b : Speed) → speedNumber a ≡ speedNumber b → a ≡ b
+speed-one-number (Of v) (Of u) e = cc
+speed-one-number (Of v) (Refused d) e = absurd (refused-not v d (sym e))
+speed-one-number (Refused d) (Of u) e = absurd (refused-not u d e)
+speed-one-number (Refused d) (Refused g) e = cc
 
 -- ---- the refusal VALUE, test by test
 
@@ -30,7 +46,7 @@ pub bad-rate : (D : ℤ) (T F : ℕ) → goodCount D ≡ true → goodSamples T 
 unfolding speedByCount
 bad-rate D T F h k l = rw (h, k, l)
 
-pub good-speed : (D : ℤ) (T F : ℕ) → goodCount D ≡ true → goodSamples T ≡ true → goodRate F ≡ true → Number (rounded (D *ℤ pos (1000 * F)) T) ≡ speedByCount D T F
+pub good-speed : (D : ℤ) (T F : ℕ) → goodCount D ≡ true → goodSamples T ≡ true → goodRate F ≡ true → Of (rounded (D *ℤ pos (1000 * F)) T) ≡ speedByCount D T F
 unfolding speedByCount
 good-speed D T F h k l = rw (h, k, l)
 
@@ -94,7 +110,7 @@ floors α β (suc k) T F hs hT =
     ⊎-elim (λ q. omega (arith, q, abs-is (X -ℤ Y), bal-sub X Y)) (λ q. omega (arith, q, abs-is (X -ℤ Y), bal-sub X Y)) (sign (X -ℤ Y))
 
 -- a speed is given only where every argument is within its limits, and is the rounded quotient
-module _ (D : ℤ) (T F : ℕ) (v : ℤ) (h : speedByCount D T F ≡ Number v) where
+module _ (D : ℤ) (T F : ℕ) (v : ℤ) (h : speedByCount D T F ≡ Of v) where
   pub record Given : Type 0 where
     pub count : goodCount D ≡ true
     pub samples : goodSamples T ≡ true
@@ -118,7 +134,7 @@ module _ (D : ℤ) (T F : ℕ) (v : ℤ) (h : speedByCount D T F ≡ Number v) w
 
 -- HEADLINE: the second bound: where D is the difference of two counts that are floors of shaft angles in s-ths of a count, twice
 -- |v T s - 1000 F (angle difference)| is at most 2000 F (s - 1) + T s.
-pub speed-of-shaft : (α β : ℤ) (s T F : ℕ) (v : ℤ) → 0 < s → speedByCount (countedFrom α β s) T F ≡ Number v →
+pub speed-of-shaft : (α β : ℤ) (s T F : ℕ) (v : ℤ) → 0 < s → speedByCount (countedFrom α β s) T F ≡ Of v →
     2 * natAbs (((v *ℤ pos T) *ℤ pos s) -ℤ ((β -ℤ α) *ℤ pos (1000 * F))) ≤ angleBound s T F
 speed-of-shaft α β s T F v some h =
     let g = speed-given (countedFrom α β s) T F v h in

@@ -4,17 +4,17 @@ use mathlib.Core.Bool.{true, false, _&&_, and-eq-true-iff}
 use Prim.Native.Nat.{ℕ, _+_, _*_, _-_, _/_, _%_, _^_, _≤_, _<_}
 use native.Mathlib.Nat.{mod-lt, mod-eq-of-lt, div-add-mod', add-mul-mod-self-right}
 use native.Mathlib.Omega.{arith}
-use borrow.Author.Tests.{eq-eqb, ne-eqb, lt-ltb, le-ltb, ltb-true, leb-true}
+use borrow.Author.Tests.{eq-eqb, ne-eqb, lt-ltb, le-ltb, ltb-true, leb-true, leb-false}
 use lib.Dec.{ltb, leb}
 use lib.Pow.{pow-pos, pow-add}
 use lib.IntN.{ℤ, pos, _+ℤ_, _-ℤ_}
 use Rattle.integers.specs.Integer.{modZ}
-use Rattle.integers.proofs.Balance.{eqZ, bal-add, bal-sub, mod-turns}
-use Rattle.position.specs.Position.{inRange, positionOf, wordOf}
+use Rattle.integers.proofs.Balance.{Tested, yes, no, test, eqZ, bal-add, bal-sub, mod-turns}
+use Rattle.position.specs.Position.{inRange, isWord, positionOf, wordOf}
 use Rattle.position.proofs.PositionLaws.{range-no, position-in-range, bal-position, position-word}
 use Rattle.refusal.specs.declared.Refusal.the-variants.{Value, Half, Range}
 use Rattle.reckon.specs.declared.Reckoned.the-variants.{Number, Refused}
-use Rattle.reckon.specs.Widening.{goodWidth, goodReading, within, nearestTo, widened, aheadOf}
+use Rattle.reckon.specs.Widening.{goodWidth, goodReading, orRange, nearestTo, widened, aheadOf}
 
 -- ---- what the three tests of a good reading say
 
@@ -91,7 +91,7 @@ module _ (turn b d : ℕ) where
   up-is : W +ℤ pos d ≡ positionOf (b + d)
   up-is = eqZ _ _ (omega (arith, bal-add W (pos d), bal-position b, bal-position (b + d)))
 
-  pub when-below : 2 * d < turn → within (positionOf (b + d)) ≡ nearestTo turn (positionOf b) d
+  pub when-below : 2 * d < turn → orRange (positionOf (b + d)) ≡ nearestTo turn (positionOf b) d
   unfolding nearestTo
   when-below h = rw (lt-ltb (2 * d) turn h, up-is)
 
@@ -100,34 +100,34 @@ module _ (turn b d : ℕ) where
   when-half h = rw (le-ltb (2 * d) turn (omega arith), eq-eqb (2 * d) turn h)
 
   module _ (h : turn ≤ 2 * d) (k : 2 * d ≡ turn → ⊥) where
-    over : within ((W +ℤ pos d) -ℤ pos turn) ≡ nearestTo turn (positionOf b) d
+    over : orRange ((W +ℤ pos d) -ℤ pos turn) ≡ nearestTo turn (positionOf b) d
     unfolding nearestTo
     over = rw (le-ltb (2 * d) turn h, ne-eqb (2 * d) turn k)
 
     pub when-outside : b + d < turn → turn ≤ 2 ^ 32 → Refused Range ≡ nearestTo turn (positionOf b) d
-    unfolding within
+    unfolding orRange
     when-outside l m =
         rw (range-no ((W +ℤ pos d) -ℤ pos turn) (omega (arith, bal-add W (pos d), bal-sub (W +ℤ pos d) (pos turn), bal-position b)))
         at over
 
-    pub when-above : turn ≤ b + d → within (positionOf (b + d - turn)) ≡ nearestTo turn (positionOf b) d
+    pub when-above : turn ≤ b + d → orRange (positionOf (b + d - turn)) ≡ nearestTo turn (positionOf b) d
     when-above l =
-        ap within (eqZ _ _ (omega (arith, bal-position (b + d - turn), bal-add W (pos d), bal-sub (W +ℤ pos d) (pos turn), bal-position b)))
+        ap orRange (eqZ _ _ (omega (arith, bal-position (b + d - turn), bal-add W (pos d), bal-sub (W +ℤ pos d) (pos turn), bal-position b)))
         ∙ over
 
 -- ---- a word, as a position or RANGE
 
-pub at-low : (b : ℕ) → b ≡ 0 → Refused Range ≡ within (positionOf b)
-unfolding within
-at-low b h = rw (range-no (positionOf b) (omega (arith, bal-position b)))
+pub word-is : (b : ℕ) → isWord b ≡ true → (0 < b) × (b < 2 ^ 63)
+word-is b h = let a = and-eq-true-iff (leb 1 b) (leb b (2 ^ 63 - 1)) .0 h in omega (arith, leb-true 1 b (a .0), leb-true b (2 ^ 63 - 1) (a .1))
 
-pub at-high : (b : ℕ) → 2 ^ 63 ≤ b → Refused Range ≡ within (positionOf b)
-unfolding within
-at-high b h = rw (range-no (positionOf b) (omega (arith, bal-position b)))
-
-pub at-in : (b : ℕ) → 0 < b → b < 2 ^ 63 → Number (positionOf b) ≡ within (positionOf b)
-unfolding within
-at-in b h k = rw (position-in-range b h k)
+-- a word holds a position exactly where that is in the range
+pub word-range : (b : ℕ) → inRange (positionOf b) ≡ isWord b
+word-range b = go (test (leb 1 b)) (test (leb b (2 ^ 63 - 1)))
+  where
+    go : Tested (leb 1 b) → Tested (leb b (2 ^ 63 - 1)) → inRange (positionOf b) ≡ isWord b
+    go (no e) t = rw e (range-no (positionOf b) (omega (arith, leb-false 1 b e, bal-position b)))
+    go (yes e) (no f) = rw (e, f) (range-no (positionOf b) (omega (arith, leb-false b (2 ^ 63 - 1) f, bal-position b)))
+    go (yes e) (yes f) = rw (e, f) (position-in-range b (leb-true 1 b e) (omega (arith, leb-true b (2 ^ 63 - 1) f)))
 
 -- the whole call, by the word
 pub by-word : (w : ℕ) (W : ℤ) (r : ℕ) → goodWidth w ≡ true → inRange W ≡ true → r < 2 ^ w →

@@ -6,8 +6,20 @@ use lib.IntN.{ℤ, pos, natAbs, _*ℤ_, _-ℤ_}
 use Rattle.integers.specs.Integer.{floorZ}
 use Rattle.refusal.specs.declared.Refusal.the-variants.{Value}
 use Rattle.reckon.specs.Rounding.{rounded}
+use Rattle.reckon.specs.Reckoned.{refusalIn}
 use Rattle.reckon.specs.declared.Reckoned.{Reckoned}
-use Rattle.reckon.specs.declared.Reckoned.the-variants.{Number, Refused}
+use Rattle.reckon.specs.declared.Reckoned.the-variants.{Number, Refused as Unreckoned}
+use Rattle.reckon.specs.declared.speed.Speed.{Speed}
+use Rattle.reckon.specs.declared.speed.Speed.the-variants.{Of, Refused}
+
+-- A speed's number, as a calculation answers it.
+abbrev pub speedNumber : Speed → Reckoned
+speedNumber (Of v) = Number v
+speedNumber (Refused e) = Unreckoned e
+
+-- The number of a speed's refusal, 0 where there is none.
+abbrev pub speedRefusal : Speed → ℕ
+speedRefusal s = refusalIn (speedNumber s)
 
 -- A count difference is at most 2 ^ 31 - 1 in size.
 unfoldable pub goodCount : ℤ → Bool
@@ -22,9 +34,9 @@ abbrev pub goodRate : ℕ → Bool
 goodRate F = leb 1 F && leb F 1000000
 
 -- The speed of the count difference D over T samples at rate F, in thousandths of a count a second.
-unfoldable pub speedByCount : ℤ → ℕ → ℕ → Reckoned
+unfoldable pub speedByCount : ℤ → ℕ → ℕ → Speed
 speedByCount D T F =
-    cond (goodCount D && goodSamples T && goodRate F) (Number (rounded (D *ℤ pos (1000 * F)) T)) (Refused Value)
+    cond (goodCount D && goodSamples T && goodRate F) (Of (rounded (D *ℤ pos (1000 * F)) T)) (Refused Value)
 
 -- The difference of two counts that are floors of shaft angles in s-ths of a count.
 abbrev pub countedFrom : ℤ → ℤ → ℕ → ℤ

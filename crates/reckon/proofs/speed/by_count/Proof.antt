@@ -11,7 +11,7 @@ use mir.Facts.{toZ-pos}
 use Rattle.integers.proofs.Balance.{abs-is}
 use Rattle.integers.proofs.Machine.{back, back-ok, fits-size}
 use Rattle.reckon.specs.Speed.{goodCount, goodSamples, goodRate}
-use Rattle.reckon.specs.declared.Reckoned.the-variants.{Number}
+use Rattle.reckon.specs.declared.speed.Speed.the-variants.{Of}
 use Rattle.reckon.proofs.SpeedLaws.{bad-count, bad-samples, bad-rate, good-speed, samples-are, rate-is, product-small}
 use Rattle.reckon.proofs.speed.by_count.Statement.{statement}
 use Rattle.reckon.proofs.speed.by_count.Tie as tie
@@ -85,7 +85,7 @@ to-nearest-requires c κs =
 returns-4 : tie.Need-returns-4
 returns-4 c =
     let k = c .before in
-    ap Number (back-ok (c .to-nearest .ok) ∙ (rw (read k, read-f k, back (fits k)) at (c .to-nearest .ensures)))
+    ap Of (back-ok (c .to-nearest .ok) ∙ (rw (read k, read-f k, back (fits k)) at (c .to-nearest .ensures)))
     ∙ good-speed _ _ _ (count (k .before .before .before .before)) (samples (k .before .before)) (rate k)
 
 pub by-count-spec : {M : Type 1} → statement M
