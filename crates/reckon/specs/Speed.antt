@@ -27,16 +27,19 @@ goodCount D = ltb (natAbs D) (2 ^ 31)
 
 -- It is taken over 1 to 2 ^ 32 - 1 samples.
 abbrev pub goodSamples : ℕ → Bool
-goodSamples T = leb 1 T && ltb T (2 ^ 32)
+goodSamples T = leb 1 T && leb T (2 ^ 32 - 1)
 
 -- A rate is 1 to 1,000,000 samples a second.
 abbrev pub goodRate : ℕ → Bool
 goodRate F = leb 1 F && leb F 1000000
 
+-- VALUE is for a count difference, a number of samples or a rate outside its limits.
+unfoldable pub goodSpeed : ℤ → ℕ → ℕ → Bool
+goodSpeed D T F = goodCount D && goodSamples T && goodRate F
+
 -- The speed of the count difference D over T samples at rate F, in thousandths of a count a second.
 unfoldable pub speedByCount : ℤ → ℕ → ℕ → Speed
-speedByCount D T F =
-    cond (goodCount D && goodSamples T && goodRate F) (Of (rounded (D *ℤ pos (1000 * F)) T)) (Refused Value)
+speedByCount D T F = cond (goodSpeed D T F) (Of (rounded (D *ℤ pos (1000 * F)) T)) (Refused Value)
 
 -- The difference of two counts that are floors of shaft angles in s-ths of a count.
 abbrev pub countedFrom : ℤ → ℤ → ℕ → ℤ

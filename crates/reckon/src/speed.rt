@@ -23,7 +23,7 @@ fn is_count(difference: i64) -> bool
 fn is_samples(samples: u64) -> bool
     ensures { λ r. ⌜ r ≡ goodSamples samples ⌝ }
 {
-    (1 <= samples) & (samples < 0x1_0000_0000)
+    (1 <= samples) & (samples <= 0xffff_ffff)
 }
 
 // Whether a rate, in samples a second, is within its limits.
@@ -58,13 +58,7 @@ fn to_nearest(n: i64, divisor: u64) -> i64
 pub fn by_count(difference: i64, samples: u64, rate: u64) -> Speed
     ensures { λ r. ⌜ r ≡ speedByCount difference samples rate ⌝ }
 {
-    if !is_count(difference) {
-        return Speed::Refused(Refusal::Value);
-    }
-    if !is_samples(samples) {
-        return Speed::Refused(Refusal::Value);
-    }
-    if !is_rate(rate) {
+    if !(is_count(difference) & is_samples(samples) & is_rate(rate)) {
         return Speed::Refused(Refusal::Value);
     }
     let f = (1000 * rate) as i64;

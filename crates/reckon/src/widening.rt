@@ -26,11 +26,7 @@ fn ahead(turn: u64, word: u64, reading: u64) -> u64
     requires { ⌜ (reading < turn) × (turn ≤ 2 ^ 32) ⌝ }
     ensures { λ r. ⌜ r ≡ aheadOf turn word reading ⌝ }
 {
-    let at = word % turn;
-    if at <= reading {
-        return reading - at;
-    }
-    reading + (turn - at)
+    (reading + (turn - word % turn)) % turn
 }
 
 // The position of a word, or RANGE.
@@ -64,10 +60,7 @@ fn nearest(turn: u64, word: u64, d: u64) -> Reckoned
 pub fn widen(width: u64, position: i64, reading: u64) -> Reckoned
     ensures { λ r. ⌜ r ≡ widened width position reading ⌝ }
 {
-    if !is_width(width) {
-        return Reckoned::Refused(Refusal::Value);
-    }
-    if !position::in_range(position) {
+    if !(is_width(width) & position::in_range(position)) {
         return Reckoned::Refused(Refusal::Value);
     }
     let turn = turn_of(width);

@@ -1,18 +1,18 @@
 -- The laws of speed by period: each answer exactly where it is due, and how near a speed is.
-use Prim.Native.Nat.{ℕ, zero, suc, _*_, _^_, _<_, _≤_}
+use Prim.Native.Nat.{ℕ, zero, suc, _-_, _*_, _^_, _<_, _≤_}
 use native.Mathlib.Omega.{arith}
 use mathlib.Core.Path.{_≡_, refl, sym}
 use mathlib.Core.Logic.{_⊎_, inl, inr, ⊎-elim}
-use mathlib.Core.Bool.{Bool, true, false, cond, _&&_}
+use mathlib.Core.Bool.{Bool, true, false, cond}
 use lib.Dec.{eqb, lit<}
 use lib.IntN.{ℤ, pos, negsuc, natAbs, _-ℤ_, _*ℤ_}
-use borrow.Author.Tests.{eq-eqb, ne-eqb, le-leb, lt-ltb}
+use borrow.Author.Tests.{eq-eqb, ne-eqb, le-leb}
 use Rattle.integers.proofs.Balance.{Tested, yes, no, test}
 use Rattle.refusal.specs.declared.Refusal.the-variants.{Kind as KIND, Value as VALUE, NoPeriod as NO-PERIOD}
 use Rattle.reckon.specs.Rounding.{rounded}
-use Rattle.reckon.specs.Speed.{speedRefusal, goodCount, goodSamples, goodRate, speedByCount}
+use Rattle.reckon.specs.Speed.{speedRefusal, goodCount, goodSamples, goodRate, goodSpeed, speedByCount}
 use Rattle.reckon.specs.declared.speed.Speed.the-variants.{Of, Refused}
-use Rattle.reckon.proofs.SpeedLaws.{unsped-not, good-speed, speed-near}
+use Rattle.reckon.proofs.SpeedLaws.{unsped-not, speed-near}
 use Rattle.axis.specs.Row.{axisOf}
 use Rattle.axis_sound.specs.Sound.{statusOf, SampledAxis}
 use Rattle.axis.specs.declared.row.Axis.{Axis}
@@ -36,9 +36,9 @@ sign-good direction = go (eqb direction 2)
 -- So is the span of a sampled axis with a period within those of a number of samples.
 span-good : {a : Axis} → SampledAxis a → 0 < a .period → goodSamples (spanOf a) ≡ true
 span-good {a} s h =
-    let t : spanOf a < 2 ^ 32 = omega (arith, s .period, s .age) in
+    let t : spanOf a ≤ 2 ^ 32 - 1 = omega (arith, s .period, s .age) in
     let o : 1 ≤ spanOf a = omega arith in
-    rw (le-leb 1 (spanOf a) o, lt-ltb (spanOf a) (2 ^ 32) t)
+    rw (le-leb 1 (spanOf a) o, le-leb (spanOf a) (2 ^ 32 - 1) t)
 
 -- A direction other than 0 and 3.
 one-or-two : (d : ℕ) → d < 3 → (d ≡ 0 → ⊥) → (d ≡ 1) ⊎ (d ≡ 2)
@@ -63,10 +63,10 @@ module _ (rate : ℕ) (r : Row) (sampled : statusOf r ≡ Sampled) where
 
   -- HEADLINE: any other period gives a speed: the direction's sign times 1000 F over the larger of period and age, to the nearest.
   pub speed-moving : goodRate rate ≡ true → 0 < a .period → speedRow rate r ≡ Of (rounded (signOf (a .direction) *ℤ pos (1000 * rate)) (spanOf a))
-  unfolding speedRow speedOf
+  unfolding speedRow speedOf speedByCount goodSpeed
   speed-moving h p =
-      rw (sampled, h, ne-eqb (a .period) 0 (λ z. let idle : ⊥ = omega arith in idle))
-      (sym (good-speed (signOf (a .direction)) (spanOf a) rate (sign-good (a .direction)) (span-good (sampled-gives r sampled) p) h))
+      let some = ne-eqb (a .period) 0 (λ z. let idle : ⊥ = omega arith in idle) in
+      rw (sampled, h, some, sign-good (a .direction), span-good (sampled-gives r sampled) p)
 
   -- HEADLINE: and then the direction is forward, 1, or back, 2.
   pub speed-direction : 0 < a .period → (a .direction ≡ 1) ⊎ (a .direction ≡ 2)
@@ -78,9 +78,9 @@ module _ (rate : ℕ) (r : Row) (sampled : statusOf r ≡ Sampled) where
 
 count-past : (D : ℤ) (T F : ℕ) → Past (speedRefusal (speedByCount D T F))
 unfolding Past speedByCount
-count-past D T F = go (test (goodCount D && goodSamples T && goodRate F))
+count-past D T F = go (test (goodSpeed D T F))
   where
-    go : Tested (goodCount D && goodSamples T && goodRate F) → Past (speedRefusal (speedByCount D T F))
+    go : Tested (goodSpeed D T F) → Past (speedRefusal (speedByCount D T F))
     go (yes g) = rw g (inl refl)
     go (no g) = rw g (inr (lit< tt))
 

@@ -3,7 +3,7 @@ use Prim.Native.Nat.{ℕ, _*_, _<_, _≤_}
 use native.Mathlib.Omega.{arith}
 use mathlib.Core.Path.{_≡_, refl, sym, ap}
 use mathlib.Core.Logic.{_≢_, _↔_, inl, inr, ⊎-elim}
-use mathlib.Core.Bool.{Bool, true, false, cond, _&&_}
+use mathlib.Core.Bool.{Bool, true, false, cond}
 use mathlib.Core.List.{List}
 use lib.Dec.{eqb, leb, ltb, lit<}
 use lib.IntN.{ℤ}
@@ -15,7 +15,7 @@ use Rattle.refusal.specs.declared.Refusal.{Refusal}
 use Rattle.refusal.specs.declared.Refusal.the-variants.{Length, Axis, Broken as BROKEN, Empty as EMPTY, NoPeriod, Room}
 use Rattle.reckon.specs.Reckoned.{refusalIn}
 use Rattle.reckon.specs.Nearest.{Verdict, value, half, range, at}
-use Rattle.reckon.specs.Speed.{speedRefusal, goodCount, goodSamples, goodRate, speedByCount}
+use Rattle.reckon.specs.Speed.{speedRefusal, goodRate, goodSpeed, speedByCount}
 use Rattle.reckon.specs.Widening.{widened}
 use Rattle.reckon.specs.declared.Reckoned.{Reckoned}
 use Rattle.reckon.specs.declared.Reckoned.the-variants.{Refused as Unreckoned}
@@ -191,7 +191,7 @@ reading-late x r =
 
 count-late : (D : ℤ) (T F : ℕ) → After Axis (speedRefusal (speedByCount D T F))
 unfolding speedByCount
-count-late D T F = either speedRefusal Axis (goodCount D && goodSamples T && goodRate F) _ _ (inl refl) (inr (lit< tt))
+count-late D T F = either speedRefusal Axis (goodSpeed D T F) _ _ (inl refl) (inr (lit< tt))
 
 pub speed-late : (rate : ℕ) (r : Row) → After Axis (speedRefusal (speedRow rate r))
 unfolding speedRow speedOf

@@ -1,6 +1,6 @@
 use borrow.Author.Needs.{needs}
-use mathlib.Core.Path.{_∙_}
-use Rattle.reckon.proofs.WideningLaws.{when-below, when-half, when-outside, when-above}
+use mathlib.Core.Path.{sym, _∙_}
+use Rattle.reckon.proofs.WideningLaws.{at-half, when-below, when-outside, when-above}
 use Rattle.reckon.proofs.widening.nearest.Statement.{statement}
 use Rattle.reckon.proofs.widening.nearest.Tie as tie
 
@@ -14,19 +14,19 @@ or-range-requires : tie.Need-or-range-requires
 or-range-requires c κs = search needs
 
 returns : tie.Need-returns
-returns c = c .or-range .ensures ∙ when-below _ _ _ (c .before .if1 .taken)
+returns c = c .or-range .ensures ∙ sym (when-below _ _ _ (c .before .if1 .taken))
 
 mul-if2 : tie.Need-mul-if2
 mul-if2 c = search needs
 
 returns-2 : tie.Need-returns-2
-returns-2 c = when-half _ _ _ (c .if2 .taken)
+returns-2 c = sym (at-half _ _ _ (c .if2 .taken))
 
 add-if3 : tie.Need-add-if3
 add-if3 c = search needs
 
 returns-3 : tie.Need-returns-3
-returns-3 c = when-outside _ _ _ (c .before .before .if1 .left) (c .before .if2 .left) (c .if3 .taken) (c .before .before .before .pre .1)
+returns-3 c = sym (when-outside _ _ _ (c .before .before .if1 .left) (c .before .if2 .left) (c .if3 .taken) (c .before .before .before .pre .1))
 
 add-or-range-2 : tie.Need-add-or-range-2
 add-or-range-2 c = search needs
@@ -38,7 +38,9 @@ or-range-requires-2 : tie.Need-or-range-requires-2
 or-range-requires-2 c κs = search needs
 
 returns-4 : tie.Need-returns-4
-returns-4 c = c .or-range2 .ensures ∙ when-above _ _ _ (c .before .before .before .if1 .left) (c .before .before .if2 .left) (c .before .if3 .left)
+returns-4 c =
+    c .or-range2 .ensures
+    ∙ sym (when-above _ _ _ (c .before .before .before .if1 .left) (c .before .before .if2 .left) (c .before .if3 .left))
 
 pub nearest-spec : {M : Type 1} → statement M
 nearest-spec =
