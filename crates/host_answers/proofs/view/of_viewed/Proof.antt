@@ -1,3 +1,4 @@
+-- A view to C: its values where it shows, and the refusal's two numbers where it does not.
 use mir.Syntax.{w64}
 use mir.Val.{SFits}
 use Rattle.integers.proofs.Machine.{back}
