@@ -1,4 +1,3 @@
 // The operations without a table that the locator's C host calls, on plain numbers and a byte slice.
-pub mod answer; // answer.rt: what every call answers
 pub mod reckoning; // reckoning.rt: widening and speed by count
 pub mod records; // records.rt: the record test

@@ -2,21 +2,23 @@
 ghost use mathlib.Core.Path.{_≡_};
 ghost use Rattle.reckon.specs.Widening.{widened};
 ghost use Rattle.reckon.specs.Speed.{speedByCount};
-ghost use Rattle.host.specs.Answer.{answerTo};
-use crate::answer::Answer;
+ghost use Rattle.host_answers.specs.Answer.{answerTo, answerSpeed};
+use host_answers::answer::Answer;
+use host_answers::answer::of_reckoned;
+use host_answers::answer::of_speed;
 
 // The position that a reading of a narrow counter says.
 #[no_mangle]
 pub extern "C" fn ubrenchip_widen(width: u64, position: i64, reading: u64) -> Answer
     ensures { λ r. ⌜ r ≡ answerTo (widened width position reading) ⌝ }
 {
-    crate::answer::of_reckoned(reckon::widening::widen(width, position, reading))
+    of_reckoned(reckon::widening::widen(width, position, reading))
 }
 
 // The speed of a count difference, in thousandths of a count a second.
 #[no_mangle]
 pub extern "C" fn ubrenchip_speed_by_count(difference: i64, samples: u64, rate: u64) -> Answer
-    ensures { λ r. ⌜ r ≡ answerTo (speedByCount difference samples rate) ⌝ }
+    ensures { λ r. ⌜ r ≡ answerSpeed (speedByCount difference samples rate) ⌝ }
 {
-    crate::answer::of_reckoned(reckon::speed::by_count(difference, samples, rate))
+    of_speed(reckon::speed::by_count(difference, samples, rate))
 }

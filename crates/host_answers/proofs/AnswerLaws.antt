@@ -4,16 +4,22 @@ use mathlib.Core.Path.{_≡_, refl, ap}
 use mathlib.Core.Bool.{Bool, true, false}
 use lib.IntN.{natAbs}
 use Rattle.fields.specs.Field.{bitOf}
+use Rattle.reckon.specs.Speed.{speedNumber}
+use Rattle.reckon.specs.declared.Reckoned.{Reckoned}
+use Rattle.reckon.specs.declared.speed.Speed.{Speed}
+use Rattle.reckon.proofs.ReckonedLaws.{reckoned-apart}
+use Rattle.reckon.proofs.SpeedLaws.{speed-one-number}
+use Rattle.record.specs.declared.answer.Tested.{Tested}
 use Rattle.record.specs.declared.answer.Written.{Written}
-use Rattle.record.proofs.AnswerLaws.{save-told}
+use Rattle.record.proofs.AnswerLaws.{test-told, save-told}
 use Rattle.row_calls.specs.Answer.{viewValue}
 use Rattle.row_calls.specs.declared.answer.Done.{Done}
 use Rattle.row_calls.specs.declared.answer.Viewed.{Viewed}
 use Rattle.row_calls.proofs.AnswerLaws.{done-told, view-told}
 use Rattle.table_port.specs.declared.Sampled.{Sampled}
 use Rattle.table_port.proofs.AnswerLaws.{sample-told}
-use Rattle.host.specs.declared.answer.Answer.{Answer}
-use Rattle.host_answers.specs.Answer.{answerDone, answerWritten, answerSampled, answerView}
+use Rattle.host_answers.specs.declared.answer.Answer.{Answer}
+use Rattle.host_answers.specs.Answer.{answerTo, answerSpeed, answerTest, answerDone, answerWritten, answerSampled, answerView}
 use Rattle.host_answers.specs.declared.sampled.SampledAnswer.{SampledAnswer}
 use Rattle.host_answers.specs.declared.view.ViewAnswer.{ViewAnswer}
 
@@ -23,25 +29,40 @@ bit-apart true false e = absurd (omega arith)
 bit-apart false true e = absurd (omega arith)
 bit-apart false false e = refl
 
--- HEADLINE: two calls that say only that they were done, and look the same to C, had the same answer.
+-- HEADLINE: two calculations that look the same to C had the same answer.
+pub answer-apart : (a b : Reckoned) → answerTo a ≡ answerTo b → a ≡ b
+unfolding answerTo
+answer-apart a b e =
+    reckoned-apart a b (ap (λ (x : Answer). x .refusal) e) (ap (λ (x : Answer). x .found) e) (ap (λ (x : Answer). x .value) e)
+
+-- HEADLINE: so had two speeds.
+pub speed-apart : (a b : Speed) → answerSpeed a ≡ answerSpeed b → a ≡ b
+speed-apart a b e = speed-one-number a b (answer-apart (speedNumber a) (speedNumber b) e)
+
+-- HEADLINE: so had two record tests.
+pub test-apart : (a b : Tested) → answerTest a ≡ answerTest b → a ≡ b
+unfolding answerTest
+test-apart a b e = test-told a b (ap (λ (x : Answer). x .refusal) e) (ap (λ (x : Answer). x .found) e)
+
+-- HEADLINE: so had two calls that say only that they were done.
 pub done-apart : (a b : Done) → answerDone a ≡ answerDone b → a ≡ b
 unfolding answerDone
 done-apart a b e = done-told a b (ap (λ (x : Answer). x .refusal) e) (ap (λ (x : Answer). x .found) e)
 
--- HEADLINE: so did two saves.
+-- HEADLINE: so had two saves.
 pub written-apart : (a b : Written) → answerWritten a ≡ answerWritten b → a ≡ b
 unfolding answerWritten
 written-apart a b e =
     save-told a b (ap (λ (x : Answer). x .refusal) e) (ap (λ (x : Answer). x .found) e) (ap (λ (x : Answer). natAbs (x .value)) e)
 
--- HEADLINE: so did two port samples.
+-- HEADLINE: so had two port samples.
 pub sampled-apart : (a b : Sampled) → answerSampled a ≡ answerSampled b → a ≡ b
 unfolding answerSampled
 sampled-apart a b e =
     sample-told a b (ap (λ (x : SampledAnswer). x .refusal) e) (ap (λ (x : SampledAnswer). x .found) e)
     (λ i. record { doubles = e i .doubles; index = e i .index; broken = e i .broken })
 
--- HEADLINE: so did two views.
+-- HEADLINE: so had two views.
 pub view-apart : (a b : Viewed) → answerView a ≡ answerView b → a ≡ b
 unfolding answerView
 view-apart a b e =

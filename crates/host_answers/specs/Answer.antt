@@ -1,22 +1,43 @@
--- What the calls on a table answer to C: document 01, "Calls that name one axis", "A port sample" and "Reasons for saying no".
-use lib.IntN.{pos}
+-- What the calls answer to C: document 01, "Calls that name one axis", "A port sample" and "Reasons for saying no".
+use lib.IntN.{ℤ, pos}
 use Rattle.refusal.specs.Refusal.{numberOf, foundIn}
 use Rattle.refusal.specs.declared.Refusal.{Refusal}
 use Rattle.fields.specs.Field.{bitOf}
-use Rattle.record.specs.Answer.{writtenNumber, writtenFound, writtenBytes}
+use Rattle.reckon.specs.Reckoned.{refusalIn, foundBy, valueIn}
+use Rattle.reckon.specs.Speed.{speedNumber}
+use Rattle.reckon.specs.declared.Reckoned.{Reckoned}
+use Rattle.reckon.specs.declared.speed.Speed.{Speed}
+use Rattle.record.specs.Answer.{testedNumber, testedFound, writtenNumber, writtenFound, writtenBytes}
+use Rattle.record.specs.declared.answer.Tested.{Tested}
 use Rattle.record.specs.declared.answer.Written.{Written}
 use Rattle.row_calls.specs.Answer.{doneNumber, doneFound, viewNumber, viewFound, viewValue}
 use Rattle.row_calls.specs.declared.answer.Done.{Done}
 use Rattle.row_calls.specs.declared.answer.Viewed.{Viewed}
 use Rattle.table_port.specs.Port.{sampledNumber, sampledFound, sampledMasks}
 use Rattle.table_port.specs.declared.Sampled.{Sampled}
-use Rattle.host.specs.declared.answer.Answer.{Answer}
+use Rattle.host_answers.specs.declared.answer.Answer.{Answer}
 use Rattle.host_answers.specs.declared.sampled.SampledAnswer.{SampledAnswer}
 use Rattle.host_answers.specs.declared.view.ViewAnswer.{ViewAnswer}
+
+-- The value of a call that was done.
+abbrev pub answerValue : ℤ → Answer
+answerValue v = record { refusal = 0; found = 0; value = v }
 
 -- The paper's number and found number of a refusal, which has no value.
 abbrev pub answerRefused : Refusal → Answer
 answerRefused e = record { refusal = numberOf e; found = foundIn e; value = pos 0 }
+
+-- The paper's number, found number and value of a calculation's answer.
+unfoldable pub answerTo : Reckoned → Answer
+answerTo a = record { refusal = refusalIn a; found = foundBy a; value = valueIn a }
+
+-- What a speed answers: as a calculation of its number does.
+abbrev pub answerSpeed : Speed → Answer
+answerSpeed s = answerTo (speedNumber s)
+
+-- The paper's number and found number of a record test's answer, which has no value.
+unfoldable pub answerTest : Tested → Answer
+answerTest a = record { refusal = testedNumber a; found = testedFound a; value = pos 0 }
 
 -- The paper's number and found number of a call that says only that it was done.
 unfoldable pub answerDone : Done → Answer

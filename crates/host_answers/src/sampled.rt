@@ -1,6 +1,7 @@
 // What a port sample answers to C.
 ghost use mathlib.Core.Path.{_≡_};
 ghost use Rattle.host_answers.specs.Answer.{answerSampled};
+use crate::answer::of_refusal;
 use table_port::Sampled;
 
 // A port sample's answer: the refusal's number, the layout number found (0), and three masks in which bit k is axis k's.
@@ -25,12 +26,15 @@ pub fn of_sampled(s: Sampled) -> SampledAnswer
             index: m.index as u64,
             broken: m.broken as u64,
         },
-        Sampled::Refused(e) => SampledAnswer {
-            refusal: refusal::number(e),
-            found: refusal::found(e),
-            doubles: 0,
-            index: 0,
-            broken: 0,
-        },
+        Sampled::Refused(e) => {
+            let why = of_refusal(e);
+            SampledAnswer {
+                refusal: why.refusal,
+                found: why.found,
+                doubles: 0,
+                index: 0,
+                broken: 0,
+            }
+        }
     }
 }

@@ -1,6 +1,7 @@
 // What a view answers to C.
 ghost use mathlib.Core.Path.{_≡_};
 ghost use Rattle.host_answers.specs.Answer.{answerView};
+use crate::answer::of_refusal;
 use row_calls::answer::Viewed;
 
 // A view's answer: the refusal's number, the layout number found (0), and what the axis shows, each flag 0 or 1.
@@ -37,18 +38,21 @@ pub fn of_viewed(v: Viewed) -> ViewAnswer
             index: s.index as u32,
             unused: 0,
         },
-        Viewed::Refused(e) => ViewAnswer {
-            refusal: refusal::number(e),
-            found: refusal::found(e),
-            position: 0,
-            kind: 0,
-            doubles: 0,
-            primed: 0,
-            armed: 0,
-            homed: 0,
-            range: 0,
-            index: 0,
-            unused: 0,
-        },
+        Viewed::Refused(e) => {
+            let why = of_refusal(e);
+            ViewAnswer {
+                refusal: why.refusal,
+                found: why.found,
+                position: 0,
+                kind: 0,
+                doubles: 0,
+                primed: 0,
+                armed: 0,
+                homed: 0,
+                range: 0,
+                index: 0,
+                unused: 0,
+            }
+        }
     }
 }

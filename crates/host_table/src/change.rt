@@ -1,8 +1,8 @@
 // Preset, arm and acknowledge.
 ghost use Rattle.row_calls.specs.Calls.{presetRow, armRow, acknowledgeRow};
 ghost use Rattle.host_table.specs.Call.{MakesToC};
-use host::answer::Answer;
-use host_answers::plain::of_done;
+use host_answers::answer::Answer;
+use host_answers::answer::of_done;
 
 // Another position: LENGTH, AXIS, BROKEN, EMPTY, VALUE.
 #[no_mangle]

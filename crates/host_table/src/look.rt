@@ -1,10 +1,9 @@
 // View, and speed by period: the calls that only look.
 ghost use mathlib.Core.Path.{_≡_};
-ghost use Rattle.host.specs.Answer.{answerTo};
 ghost use Rattle.table.specs.Call.{viewedIn, speedIn};
-ghost use Rattle.host_answers.specs.Answer.{answerView};
-use host::answer::Answer;
-use host::answer::of_reckoned;
+ghost use Rattle.host_answers.specs.Answer.{answerSpeed, answerView};
+use host_answers::answer::Answer;
+use host_answers::answer::of_speed;
 use host_answers::view::ViewAnswer;
 use host_answers::view::of_viewed;
 
@@ -19,7 +18,7 @@ pub extern "C" fn ubrenchip_look(table: &[u64], axis: u64) -> ViewAnswer
 // Speed by period, at a rate in samples a second: LENGTH, AXIS, BROKEN, EMPTY, KIND, VALUE, NO PERIOD.
 #[no_mangle]
 pub extern "C" fn ubrenchip_speed_by_period(table: &[u64], axis: u64, rate: u64) -> Answer
-    ensures { λ r. ⌜ r ≡ answerTo (speedIn rate (now (table .entry)) axis) ⌝ }
+    ensures { λ r. ⌜ r ≡ answerSpeed (speedIn rate (now (table .entry)) axis) ⌝ }
 {
-    of_reckoned(table::look::speed(table, axis, rate))
+    of_speed(table::look::speed(table, axis, rate))
 }

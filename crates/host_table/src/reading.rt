@@ -1,7 +1,7 @@
 // A reading of a narrow counter.
 ghost use Rattle.host_table.specs.Call.{ReadsToC};
-use host::answer::Answer;
-use host::answer::of_reckoned;
+use host_answers::answer::Answer;
+use host_answers::answer::of_reckoned;
 
 // The position that a reading gives, stored and answered: LENGTH, AXIS, BROKEN, EMPTY, KIND, VALUE, HALF, RANGE.
 #[no_mangle]

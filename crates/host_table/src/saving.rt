@@ -1,9 +1,9 @@
 // Save and restore.
 ghost use Rattle.row_saving.specs.Saving.{restoreRow};
 ghost use Rattle.host_table.specs.Call.{MakesToC, SavesToC};
-use host::answer::Answer;
-use host_answers::plain::of_done;
-use host_answers::plain::of_written;
+use host_answers::answer::Answer;
+use host_answers::answer::of_done;
+use host_answers::answer::of_written;
 
 // The axis's record at the front of a buffer: LENGTH, AXIS, BROKEN, EMPTY, ROOM.
 #[no_mangle]

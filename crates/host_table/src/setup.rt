@@ -1,8 +1,8 @@
 // Setup and erase.
 ghost use Rattle.row_calls.specs.Calls.{setupRow, eraseRow};
 ghost use Rattle.host_table.specs.Call.{MakesToC};
-use host::answer::Answer;
-use host_answers::plain::of_done;
+use host_answers::answer::Answer;
+use host_answers::answer::of_done;
 
 // An axis set up anew: LENGTH, AXIS, VALUE.
 #[no_mangle]

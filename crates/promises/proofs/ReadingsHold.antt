@@ -3,9 +3,9 @@ use mathlib.Core.Path.{_≡_, refl}
 use mathlib.Core.List.{map}
 use Rattle.integers.specs.Integer.{modZ}
 use Rattle.position.specs.Position.{inRange, positionOf}
-use Rattle.reckon.specs.Widening.{goodReading, within, nearestTo, widened}
+use Rattle.reckon.specs.Widening.{goodReading, orRange, nearestTo, widened}
 use Rattle.reckon.specs.Rounding.{rounded}
-use Rattle.reckon.specs.Speed.{goodCount, speedByCount}
+use Rattle.reckon.specs.Speed.{goodCount, goodSpeed, speedByCount}
 use Rattle.axis_sound.specs.Sound.{statusOf}
 use Rattle.axis_filter.specs.Lines.{levelOf}
 use Rattle.axis_filter.specs.Filter.{filterLine}
@@ -19,5 +19,5 @@ use Rattle.promises.specs.Readings.{setUp, sampledBy, counted, levelled,
 
 -- HEADLINE: each of the twelve shows what document 01 states.
 pub readings-hold : map (λ (r : Reading). r .gives) readings ≡ map (λ (r : Reading). r .stated) readings
-unfolding readings _shows_ setUp sampledBy counted levelled positionOf inRange modZ goodReading within nearestTo widened rounded goodCount speedByCount statusOf placeOf levelOf line filterLine filtered x1 x2 x4 tableOf entry isE moveTo countedWord countedRange countedDoubles older pacedDirection pacedAge stepPeriod pacedPeriod rises offTurn primedBy settle outcome stepAxis stepBy stepRow
+unfolding readings _shows_ setUp sampledBy counted levelled positionOf inRange modZ goodReading orRange nearestTo widened rounded goodCount goodSpeed speedByCount statusOf placeOf levelOf line filterLine filtered x1 x2 x4 tableOf entry isE moveTo countedWord countedRange countedDoubles older pacedDirection pacedAge stepPeriod pacedPeriod rises offTurn primedBy settle outcome stepAxis stepBy stepRow
 readings-hold = refl

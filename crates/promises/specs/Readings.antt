@@ -9,6 +9,8 @@ use Rattle.reckon.specs.Widening.{widened}
 use Rattle.reckon.specs.Speed.{speedByCount}
 use Rattle.reckon.specs.declared.Reckoned.{Reckoned}
 use Rattle.reckon.specs.declared.Reckoned.the-variants.{Number, Refused}
+use Rattle.reckon.specs.declared.speed.Speed.{Speed}
+use Rattle.reckon.specs.declared.speed.Speed.the-variants.{Of}
 use Rattle.fields.specs.Field.{fieldOf, flagOf}
 use Rattle.axis.specs.Kind.{X1, X2, X4}
 use Rattle.axis.specs.Row.{rowOf, fresh}
@@ -24,12 +26,13 @@ unfoldable pub sampledBy : Row → List ℕ → Row
 sampledBy r [] = r
 sampledBy r (n ∷ ns) = sampledBy (stepRow r n .row) ns
 
--- What a reading shows: a row's position and doubles, its filtered A and position, or what was reckoned.
+-- What a reading shows: a row's position and doubles, its filtered A and position, what was reckoned, or a speed.
 pub data Shown : Type 0 where
   counts : ℤ → ℕ → Shown
   level : Bool → ℤ → Shown
   both : Shown → Shown → Shown
   reckons : Reckoned → Shown
+  speeds : Speed → Shown
 
 -- The position and the doubles of a row.
 unfoldable pub counted : Row → Shown
@@ -62,6 +65,6 @@ readings =
     ∷ (reckons (widened 8 (pos 250) 122) shows reckons (Refused Half))
     ∷ (reckons (widened 8 (pos 250) 123) shows reckons (Number (pos 123)))
     ∷ (reckons (widened 8 (negsuc 0) 0) shows reckons (Number (pos 0)))
-    ∷ (reckons (speedByCount (pos 1) 3 1) shows reckons (Number (pos 333)))
-    ∷ (reckons (speedByCount (negsuc 0) 2000 1) shows reckons (Number (negsuc 0)))
+    ∷ (speeds (speedByCount (pos 1) 3 1) shows speeds (Of (pos 333)))
+    ∷ (speeds (speedByCount (negsuc 0) 2000 1) shows speeds (Of (negsuc 0)))
     ∷ []

@@ -41,8 +41,8 @@ fn held() {
 
 // Speeds by count.
 fn counted() {
-    say::reckoned(b"speed by count 1, T 2001, F 1: ", by_count(1, 2001, 1));
-    say::reckoned(b"speed by count 1, T 0, F 1: ", by_count(1, 0, 1));
+    say::speed(b"speed by count 1, T 2001, F 1: ", by_count(1, 2001, 1));
+    say::speed(b"speed by count 1, T 0, F 1: ", by_count(1, 0, 1));
 }
 
 // One port word, so many times.
@@ -62,12 +62,12 @@ fn paced() {
     repeat(&mut table, 1, 5);
     repeat(&mut table, 3, 5);
     repeat(&mut table, 2, 1);
-    say::reckoned(
+    say::speed(
         b"x4 steps 5 samples apart, F 1000: ",
         speed(&table, 0, 1000),
     );
     repeat(&mut table, 2, 12);
-    say::reckoned(
+    say::speed(
         b"12 samples after the last, F 1000: ",
         speed(&table, 0, 1000),
     );

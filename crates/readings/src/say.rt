@@ -1,6 +1,7 @@
 // Answers as text on standard output.
 use libc::STDOUT_FILENO;
 use reckon::Reckoned;
+use reckon::speed::Speed;
 use record::answer::Written;
 use refusal::Refusal;
 use row_calls::answer::Done;
@@ -43,6 +44,16 @@ pub fn reckoned(label: &[u8], answer: Reckoned) {
     match answer {
         Reckoned::Number(n) => number(n),
         Reckoned::Refused(e) => reason(e),
+    }
+    text(b"\n");
+}
+
+// A speed, or the reason.
+pub fn speed(label: &[u8], answer: Speed) {
+    text(label);
+    match answer {
+        Speed::Of(n) => number(n),
+        Speed::Refused(e) => reason(e),
     }
     text(b"\n");
 }

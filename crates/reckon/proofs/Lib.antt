@@ -1,3 +1,4 @@
+pub mod NumberLaws
 pub mod WideningLaws
 pub mod NearestLaws
 pub mod RoundingLaws

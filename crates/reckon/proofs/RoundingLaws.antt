@@ -1,19 +1,20 @@
 -- Division to the nearest: the machine's signed quotient is it, and how near it is, for any numerator and divisor.
 use mathlib.Core.Path.{_≡_, refl, sym, ap, _∙_}
-use mathlib.Core.Logic.{_⊎_, inl, inr, ⊎-elim}
-use Prim.Native.Nat.{ℕ, zero, suc, _+_, _*_, _/_, _^_, _≤_, _<_}
-use native.Mathlib.Nat.{div-le-self, mod-lt, div-add-mod', mul-le-mul-right}
+use mathlib.Core.Logic.{⊎-elim}
+use Prim.Native.Nat.{ℕ, suc, _+_, _*_, _/_, _^_, _≤_, _<_}
+use native.Mathlib.Nat.{div-le-self, div-eq-of-lt-le, mod-lt, div-add-mod', mul-le-mul-right}
 use native.Mathlib.Omega.{arith}
 use borrow.Author.Tests.{ltb-true, ltb-false}
 use lib.Dec.{ltb}
-use lib.IntN.{ℤ, pos, negsuc, negℤ, natAbs, _+ℤ_, _-ℤ_, _*ℤ_}
+use lib.IntN.{ℤ, pos, negsuc, negℤ, natAbs, _+ℤ_, _-ℤ_, _*ℤ_, negℤ-negℤ}
 use lib.Signed.{quotZ}
 use mir.Syntax.{w64}
 use mir.Val.{SFits}
 use Rattle.integers.specs.Integer.{plus, minus}
-use Rattle.integers.proofs.Balance.{Tested, yes, no, test, abs-is, eqZ, sign, bal-add, bal-sub, bal-neg, bal-times, bal-scale, size-add}
+use Rattle.integers.proofs.Balance.{Tested, yes, no, test, abs-is, bal-add, bal-neg, bal-times, bal-scale, size-add}
 use Rattle.integers.proofs.Machine.{fits-size, no-pos, quot-down}
 use Rattle.reckon.specs.Rounding.{awayFrom, rounded, Rounds}
+use Rattle.reckon.proofs.NumberLaws.{far-cases, abs-neg, scale-neg, far-neg}
 
 -- ---- the machine's quotient, of numbers of the size that the code allows
 
@@ -57,7 +58,7 @@ quotient (negsuc a) t =
 size-rounded : (n : ℤ) (t : ℕ) → natAbs (rounded n t) ≡ (2 * natAbs n + t) / (2 * t)
 unfolding rounded
 size-rounded (pos a) t = refl
-size-rounded (negsuc a) t = let b = bal-neg (pos ((2 * suc a + t) / (2 * t))) in omega (arith, abs-is (negℤ (pos ((2 * suc a + t) / (2 * t)))))
+size-rounded (negsuc a) t = abs-neg (pos ((2 * suc a + t) / (2 * t)))
 
 module _ {n : ℤ} {t : ℕ} (k : Sized n t) where
   pub fits-twice : SFits w64 (pos 2 *ℤ n)
@@ -74,144 +75,59 @@ module _ {n : ℤ} {t : ℕ} (k : Sized n t) where
       rw (quotient n t)
       (fits-size _ (omega (arith, abs-is (rounded n t), size-rounded n t, div-le-self (2 * natAbs n + t) (2 * t))))
 
--- ---- how near it is
+-- ---- nearest, a half away from zero: the rounded quotient and no other, at or above zero first
 
--- q = (2a + t) / 2t has  2qt ≤ 2a + t < 2qt + 2t
-whole : (a t : ℕ) → 0 < t → (2 * ((2 * a + t) / (2 * t) * t) ≤ 2 * a + t) × (2 * a + t < 2 * ((2 * a + t) / (2 * t) * t) + 2 * t)
-whole a t h = omega (arith, div-add-mod' (2 * a + t) (2 * t), mod-lt (2 * a + t) {m = 2 * t} (omega arith))
+module _ (a t : ℕ) (some : 0 < t) where
+  abbrev q : ℕ
+  q = (2 * a + t) / (2 * t)
 
--- twice v t and twice n are at most t apart
-pub twice : (n : ℤ) (t : ℕ) → 0 < t →
-    (2 * (plus (rounded n t) * t) + 2 * minus n ≤ 2 * plus n + 2 * (minus (rounded n t) * t) + t)
-    × (2 * plus n + 2 * (minus (rounded n t) * t) ≤ 2 * (plus (rounded n t) * t) + 2 * minus n + t)
-unfolding rounded
-twice (pos a) t h = let w = whole a t h in omega arith
-twice (negsuc a) t h =
-    let w = whole (suc a) t h in
-    let b = bal-neg (pos ((2 * suc a + t) / (2 * t))) in
-    let p = ap (λ (k : ℕ). k * t) (b .0) in
-    let q = ap (λ (k : ℕ). k * t) (b .1) in
-    omega arith
+  whole : (2 * (q * t) ≤ 2 * a + t) × (2 * a + t < 2 * (q * t) + 2 * t)
+  whole = omega (arith, div-add-mod' (2 * a + t) (2 * t), mod-lt (2 * a + t) {m = 2 * t} (omega arith))
 
--- ---- nearest, a half away from zero: the rounded quotient, and no other
-
--- Rounds, in natural numbers: of a numerator of size a, and v of its sign and size q
-pub record Sides (a t q : ℕ) : Type 0 where
-  pub below : 2 * (q * t) ≤ 2 * a + t
-  pub above : 2 * a + t < 2 * (q * t) + 2 * t
-
-sides : (a t : ℕ) → 0 < t → Sides a t ((2 * a + t) / (2 * t))
-sides a t h = let w = whole a t h in record { below = w .0; above = w .1 }
-
-not-less : (a t p q : ℕ) → Sides a t p → Sides a t q → p < q → ⊥
-not-less a t p q h k l = omega (arith, h .above, k .below, mul-le-mul-right t l)
-
-one-quotient : (a t p q : ℕ) → Sides a t p → Sides a t q → p ≡ q
-one-quotient a t p q h k = go (test (ltb p q)) (test (ltb q p))
-  where
-    go : Tested (ltb p q) → Tested (ltb q p) → p ≡ q
-    go (yes e) f = absurd (not-less a t p q h k (ltb-true p q e))
-    go (no e) (yes f) = absurd (not-less a t q p k h (ltb-true q p f))
-    go (no e) (no f) = omega (arith, ltb-false p q e, ltb-false q p f)
-
--- a number on n's side of 0
-Alike : ℤ → ℤ → Type 0
-Alike x (pos a) = minus x ≡ 0
-Alike x (negsuc a) = plus x ≡ 0
-
--- the one is the other and their distance
-Apart : ℕ → ℕ → ℕ → Type 0
-Apart x n d = (x ≡ n + d) ⊎ (n ≡ x + d)
-
-apart : (x n : ℤ) → Alike x n → Apart (natAbs x) (natAbs n) (natAbs (x -ℤ n))
-unfolding Alike Apart
-apart x (pos a) e =
-    let n = pos a in
-    let b = bal-sub x n in
-    let c = abs-is (x -ℤ n) in
-    ⊎-elim (λ z. inl (omega (arith, z, abs-is x))) (λ z. inr (omega (arith, z, abs-is x))) (sign (x -ℤ n))
-apart x (negsuc a) e =
-    let n = negsuc a in
-    let b = bal-sub x n in
-    let c = abs-is (x -ℤ n) in
-    ⊎-elim (λ z. inr (omega (arith, z, abs-is x))) (λ z. inl (omega (arith, z, abs-is x))) (sign (x -ℤ n))
-
--- in sizes: v t is x, and lies d from n
-module _ (a t q d : ℕ) where
-  near-of : Sides a t q → Apart (q * t) a d → 2 * d ≤ t
-  unfolding Apart
-  near-of k = ⊎-elim (λ e. omega (arith, e, k)) (λ e. omega (arith, e, k))
-
-  away-of : Sides a t q → Apart (q * t) a d → 2 * d ≡ t → a ≤ q * t
-  unfolding Apart
-  away-of k w h = ⊎-elim (λ e. omega (arith, e, k)) (λ e. omega (arith, e, k, h)) w
-
-  sides-of : 0 < t → Apart (q * t) a d → 2 * d ≤ t → (2 * d ≡ t → a ≤ q * t) → Sides a t q
-  unfolding Apart
-  sides-of p w h k = ⊎-elim (λ e. record { below = omega (arith, e); above = omega (arith, e) }) (λ e. record { below = omega (arith, e); above = strict e (test (ltb (2 * d) t)) }) w
-    where
-      strict : a ≡ q * t + d → Tested (ltb (2 * d) t) → 2 * a + t < 2 * (q * t) + 2 * t
-      strict e (yes f) = omega (arith, e, ltb-true (2 * d) t f)
-      strict e (no f) = omega (arith, e, k (omega (arith, ltb-false (2 * d) t f)))
-
-scaled : (v : ℤ) (t : ℕ) → natAbs (v *ℤ pos t) ≡ natAbs v * t
-scaled v t =
-    let s = bal-scale v t in
-    let e = ap (λ (k : ℕ). k * t) (abs-is v) in
-    omega (arith, abs-is (v *ℤ pos t), e, s)
-
-alike-rounded : (n : ℤ) (t : ℕ) → Alike (rounded n t *ℤ pos t) n
-unfolding Alike rounded
-alike-rounded (pos a) t = omega (arith, bal-scale (pos ((2 * a + t) / (2 * t))) t)
-alike-rounded (negsuc a) t =
-    let q = (2 * suc a + t) / (2 * t) in
-    let b = bal-neg (pos q) in
-    let e = ap (λ (k : ℕ). k * t) (b .0) in
-    omega (arith, bal-scale (negℤ (pos q)) t, e)
-
-module _ (n : ℤ) (t : ℕ) (some : 0 < t) where
-  -- HEADLINE: the rounded quotient is the nearest, a half away from zero.
-  pub rounds : Rounds n t (rounded n t)
-  rounds =
-      let w : Apart (natAbs (rounded n t) * t) (natAbs n) (natAbs ((rounded n t *ℤ pos t) -ℤ n)) = rw (scaled (rounded n t) t) at (apart (rounded n t *ℤ pos t) n (alike-rounded n t)) in
-      let k : Sides (natAbs n) t (natAbs (rounded n t)) = rw (size-rounded n t) (sides (natAbs n) t some) in
+  up-rounds : Rounds (pos a) t (pos q)
+  up-rounds =
+      let far = far-cases (pos q *ℤ pos t) (pos a) in
       record {
-        near = near-of (natAbs n) t (natAbs (rounded n t)) _ k w;
-        away = λ h. rw (scaled (rounded n t) t) (away-of (natAbs n) t (natAbs (rounded n t)) _ k w h);
+        near = ⊎-elim (λ e. omega (arith, e, whole)) (λ e. omega (arith, e, whole)) far;
+        away = λ h. ⊎-elim (λ e. omega (arith, e)) (λ e. omega (arith, e, h, whole)) far;
       }
 
-  -- what rounds n lies on its side of 0
-  alike : (v m : ℤ) → 2 * natAbs ((v *ℤ pos t) -ℤ m) ≤ t → Alike (v *ℤ pos t) m
-  unfolding Alike
-  alike (pos b) (pos a) h = omega (arith, bal-scale (pos b) t)
-  alike (negsuc b) (negsuc a) h = omega (arith, bal-scale (negsuc b) t)
-  alike (pos zero) (negsuc a) h = omega (arith, bal-scale (pos zero) t)
-  alike (pos (suc b)) (negsuc a) h =
-      let x = pos (suc b) *ℤ pos t in
-      absurd (omega (arith, bal-scale (pos (suc b)) t, abs-is (x -ℤ negsuc a), bal-sub x (negsuc a), mul-le-mul-right {m = 1} {n = suc b} t (omega arith)))
-  alike (negsuc b) (pos a) h =
-      let x = negsuc b *ℤ pos t in
-      absurd (omega (arith, bal-scale (negsuc b) t, abs-is (x -ℤ pos a), bal-sub x (pos a), mul-le-mul-right {m = 1} {n = suc b} t (omega arith)))
-
-  none : (k : ℕ) → k * t ≡ 0 → k ≡ 0
-  none zero e = refl
-  none (suc k) e = absurd (omega (arith, mul-le-mul-right {m = 1} {n = suc k} t (omega arith)))
-
-  -- two numbers of one size, whose products with t lie on one side of 0
-  same : (m v u : ℤ) → Alike (v *ℤ pos t) m → Alike (u *ℤ pos t) m → natAbs v ≡ natAbs u → v ≡ u
-  unfolding Alike
-  same (pos a) v u h k e =
-      eqZ v u (omega (arith, abs-is v, abs-is u, none (minus v) (sym (bal-scale v t .1) ∙ h), none (minus u) (sym (bal-scale u t .1) ∙ k)))
-  same (negsuc a) v u h k e =
-      eqZ v u (omega (arith, abs-is v, abs-is u, none (plus v) (sym (bal-scale v t .0) ∙ h), none (plus u) (sym (bal-scale u t .0) ∙ k)))
-
-  -- HEADLINE: and no other number is.
-  pub rounds-only : (v : ℤ) → Rounds n t v → v ≡ rounded n t
-  rounds-only v h =
-      same n v (rounded n t) (alike v n (h .near)) (alike-rounded n t) (one-quotient (natAbs n) t _ _ given (rw (size-rounded n t) (sides (natAbs n) t some)))
+  -- what rounds it, at or above zero too
+  up-sides : (b : ℕ) → Rounds (pos a) t (pos b) → (2 * (b * t) ≤ 2 * a + t) × (2 * a + t < 2 * (b * t) + 2 * t)
+  up-sides b h = ⊎-elim (λ e. omega (arith, e, h .near)) (λ e. go (omega (arith, e)) (test (ltb (2 * d) t))) (far-cases (pos b *ℤ pos t) (pos a))
     where
-      w : Apart (natAbs v * t) (natAbs n) (natAbs ((v *ℤ pos t) -ℤ n))
-      w = rw (scaled v t) at (apart (v *ℤ pos t) n (alike v n (h .near)))
+      d : ℕ
+      d = natAbs ((pos b *ℤ pos t) -ℤ pos a)
 
-      given : Sides (natAbs n) t (natAbs v)
-      given = sides-of (natAbs n) t (natAbs v) _ some w (h .near) (λ half. rw (scaled v t) at (h .away half))
+      go : a ≡ d + b * t → Tested (ltb (2 * d) t) → (2 * (b * t) ≤ 2 * a + t) × (2 * a + t < 2 * (b * t) + 2 * t)
+      go e (yes f) = omega (arith, e, ltb-true (2 * d) t f)
+      go e (no f) = let l = ltb-false (2 * d) t f in omega (arith, e, h .near, h .away (omega (arith, h .near)))
+
+  up-only : (v : ℤ) → Rounds (pos a) t v → v ≡ pos q
+  up-only (pos b) h =
+      let s = up-sides b h in
+      ap pos (sym (div-eq-of-lt-le (2 * t) (omega (arith, s)) (omega (arith, s))))
+  up-only (negsuc b) h =
+      let x = negsuc b *ℤ pos t in
+      let s = bal-scale (negsuc b) t in
+      let l = mul-le-mul-right {m = 1} {n = suc b} t (omega arith) in
+      absurd (⊎-elim (λ e. omega (arith, e, h .near)) (λ e. omega (arith, e, h .near)) (far-cases x (pos a)))
+
+-- the negative of what rounds a number rounds its negative
+turned : {n : ℤ} {t : ℕ} {v : ℤ} → Rounds n t v → Rounds (negℤ n) t (negℤ v)
+turned {n} {t} {v} h = record {
+  near = rw (far-neg v n t) (h .near);
+  away = λ e. rw (abs-neg n, scale-neg v t, abs-neg (v *ℤ pos t)) (h .away (rw (far-neg v n t) at e));
+}
+
+-- HEADLINE: the rounded quotient is the nearest, a half away from zero.
+pub rounds : (n : ℤ) (t : ℕ) → 0 < t → Rounds n t (rounded n t)
+unfolding rounded
+rounds (pos a) t some = up-rounds a t some
+rounds (negsuc a) t some = turned (up-rounds (suc a) t some)
+
+-- HEADLINE: and no other number is.
+pub rounds-only : (n : ℤ) (t : ℕ) → 0 < t → (v : ℤ) → Rounds n t v → v ≡ rounded n t
+unfolding rounded
+rounds-only (pos a) t some v h = up-only a t some v h
+rounds-only (negsuc a) t some v h = sym (negℤ-negℤ v) ∙ ap negℤ (up-only (suc a) t some (negℤ v) (turned h))

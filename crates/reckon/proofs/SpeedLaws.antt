@@ -1,57 +1,58 @@
 -- How near a speed is to what it stands for.
-use mathlib.Core.Path.{_≡_, ap, _∙_}
-use mathlib.Core.Bool.{true, false, _&&_, and-eq-true-iff}
+use mathlib.Core.Path.{_≡_, sym, ap, _∙_}
+use mathlib.Core.Bool.{true, _&&_, and-eq-true-iff}
 use mathlib.Core.Logic.{⊎-elim}
 use Prim.Native.Nat.{ℕ, suc, _+_, _*_, _-_, _^_, _≤_, _<_}
 use native.Mathlib.Nat.{mul-le-mul, mul-le-mul-right}
 use native.Mathlib.Omega.{arith}
-use borrow.Author.Tests.{ltb-true, leb-true}
-use lib.Dec.{ltb, leb}
+use borrow.Author.Tests.{ltb-true}
 use lib.IntN.{ℤ, pos, natAbs, _-ℤ_, _*ℤ_}
 use Rattle.integers.specs.Integer.{plus, minus, modZ, floorZ}
-use Rattle.integers.proofs.Balance.{Tested, yes, no, test, abs-is, sign, bal-sub, bal-scale, modZ-lt, floor-is}
+use Rattle.integers.proofs.Balance.{Tested, yes, no, test, abs-is, bal-sub, bal-scale, modZ-lt, floor-is}
+use Rattle.refusal.specs.declared.Refusal.{Refusal}
 use Rattle.refusal.specs.declared.Refusal.the-variants.{Value}
-use Rattle.reckon.specs.declared.Reckoned.the-variants.{Number, Refused}
+use Rattle.reckon.specs.declared.speed.Speed.{Speed}
+use Rattle.reckon.specs.declared.speed.Speed.the-variants.{Of, Refused}
 use Rattle.reckon.specs.Rounding.{rounded}
-use Rattle.reckon.specs.Speed.{goodCount, goodSamples, goodRate, speedByCount, countedFrom, angleBound}
-use Rattle.reckon.proofs.RoundingLaws.{twice, rounds}
+use Rattle.reckon.specs.Speed.{speedNumber, goodCount, goodSamples, goodRate, goodSpeed, speedByCount, countedFrom, angleBound}
+use Rattle.reckon.proofs.ReckonedLaws.{refused-not}
+use Rattle.reckon.proofs.NumberLaws.{between, far-cases, far-sub}
+use Rattle.reckon.proofs.RoundingLaws.{rounds}
 
--- ---- the refusal VALUE, test by test
+-- ---- a speed and its number
 
-pub bad-count : (D : ℤ) (T F : ℕ) → goodCount D ≡ false → Refused Value ≡ speedByCount D T F
-unfolding speedByCount
-bad-count D T F h = rw h
+-- What is refused is no speed.
+pub unsped-not : (v : ℤ) (e : Refusal) → Refused e ≡ Of v → ⊥
+unsped-not v e h = refused-not v e (ap speedNumber h)
 
-pub bad-samples : (D : ℤ) (T F : ℕ) → goodCount D ≡ true → goodSamples T ≡ false → Refused Value ≡ speedByCount D T F
-unfolding speedByCount
-bad-samples D T F h k = rw (h, k)
-
-pub bad-rate : (D : ℤ) (T F : ℕ) → goodCount D ≡ true → goodSamples T ≡ true → goodRate F ≡ false → Refused Value ≡ speedByCount D T F
-unfolding speedByCount
-bad-rate D T F h k l = rw (h, k, l)
-
-pub good-speed : (D : ℤ) (T F : ℕ) → goodCount D ≡ true → goodSamples T ≡ true → goodRate F ≡ true → Number (rounded (D *ℤ pos (1000 * F)) T) ≡ speedByCount D T F
-unfolding speedByCount
-good-speed D T F h k l = rw (h, k, l)
+-- HEADLINE: two speeds with one number, or one refusal, are one speed.
+pub speed-one-number : (a b : Speed) → speedNumber a ≡ speedNumber b → a ≡ b
+speed-one-number (Of v) (Of u) e = cc
+speed-one-number (Of v) (Refused d) e = absurd (refused-not v d (sym e))
+speed-one-number (Refused d) (Of u) e = absurd (refused-not u d e)
+speed-one-number (Refused d) (Refused g) e = cc
 
 -- ---- the limits, and the size of 1000 D F
 
-pub samples-are : (T : ℕ) → goodSamples T ≡ true → (0 < T) × (T < 2 ^ 32)
-samples-are T h = let a = and-eq-true-iff (leb 1 T) (ltb T (2 ^ 32)) .0 h in (leb-true 1 T (a .0), ltb-true T (2 ^ 32) (a .1))
+pub record Limits (D : ℤ) (T F : ℕ) : Type 0 where
+  pub count : natAbs D < 2 ^ 31
+  pub samples : (1 ≤ T) × (T ≤ 2 ^ 32 - 1)
+  pub rate : (1 ≤ F) × (F ≤ 1000000)
 
-pub rate-is : (F : ℕ) → goodRate F ≡ true → (1 ≤ F) × (F ≤ 1000000)
-rate-is F h = let a = and-eq-true-iff (leb 1 F) (leb F 1000000) .0 h in (leb-true 1 F (a .0), leb-true F 1000000 (a .1))
+pub limits : (D : ℤ) (T F : ℕ) → goodSpeed D T F ≡ true → Limits D T F
+unfolding goodSpeed goodCount
+limits D T F h =
+    let a = and-eq-true-iff (goodCount D && goodSamples T) (goodRate F) .0 h in
+    let b = and-eq-true-iff (goodCount D) (goodSamples T) .0 (a .0) in
+    record { count = ltb-true (natAbs D) (2 ^ 31) (b .0); samples = between 1 (2 ^ 32 - 1) T (b .1); rate = between 1 1000000 F (a .1) }
 
-pub product-small : (D : ℤ) (F : ℕ) → goodCount D ≡ true → F ≤ 1000000 → natAbs (D *ℤ pos (1000 * F)) < 2 ^ 61
-unfolding goodCount
-product-small D F h k =
-    let d = ltb-true (natAbs D) (2 ^ 31) h in
+pub product-small : (D : ℤ) (T F : ℕ) → Limits D T F → natAbs (D *ℤ pos (1000 * F)) < 2 ^ 61
+product-small D T F k =
     omega (
       arith,
       abs-is (D *ℤ pos (1000 * F)),
       bal-scale D (1000 * F),
-      abs-is D,
-      mul-le-mul {n₁ = plus D + minus D} {m₁ = 1000 * F} {n₂ = 2 ^ 31 - 1} {m₂ = 1000000000} (omega (arith, abs-is D)) (omega arith),
+      mul-le-mul {n₁ = plus D + minus D} {m₁ = 1000 * F} {n₂ = 2 ^ 31 - 1} {m₂ = 1000000000} (omega (arith, abs-is D, k .count)) (omega (arith, k .rate)),
     )
 
 -- ---- both bounds
@@ -62,64 +63,56 @@ counted-is : (α β : ℤ) (s : ℕ) → 0 < s →
 counted-is α β s h =
     omega (arith, floor-is α s h, floor-is β s h, ap (λ (m : ℕ). m * s) (bal-sub (floorZ β s) (floorZ α s)))
 
--- in natural numbers: each fact times what it needs
-in-numbers : (pv nv pd nd T k f pα nα pβ nβ rα rβ pΔ nΔ : ℕ)
-    → (2 * (pv * T) + 2 * (nd * f) ≤ 2 * (pd * f) + 2 * (nv * T) + T) × (2 * (pd * f) + 2 * (nv * T) ≤ 2 * (pv * T) + 2 * (nd * f) + T)
-    → pd * suc k + (pα + nβ) + rβ ≡ nd * suc k + (pβ + nα) + rα
-    → pΔ + (nβ + pα) ≡ (pβ + nα) + nΔ → rα ≤ k → rβ ≤ k
-    → (2 * (pv * T * suc k) + 2 * (nΔ * f) ≤ 2 * (pΔ * f) + 2 * (nv * T * suc k) + (2 * f * k + T * suc k)) × (2 * (pΔ * f) + 2 * (nv * T * suc k) ≤ 2 * (pv * T * suc k) + 2 * (nΔ * f) + (2 * f * k + T * suc k))
-in-numbers pv nv pd nd T k f pα nα pβ nβ rα rβ pΔ nΔ a c b hα hβ = (
-  omega (arith, mul-le-mul-right (suc k) (a .0), ap (λ (m : ℕ). m * f) c, ap (λ (m : ℕ). m * f) b, mul-le-mul-right f hα, mul-le-mul-right f hβ),
-  omega (arith, mul-le-mul-right (suc k) (a .1), ap (λ (m : ℕ). m * f) c, ap (λ (m : ℕ). m * f) b, mul-le-mul-right f hα, mul-le-mul-right f hβ),
-)
+-- one way, in natural numbers: each fact times what it needs
+one-way : (pv nv pd nd T k f a b rα rβ pΔ nΔ : ℕ)
+    → 2 * pv + 2 * (nd * f) ≤ 2 * (pd * f) + 2 * nv + T → pd * suc k + a + rβ ≡ nd * suc k + b + rα → pΔ + a ≡ b + nΔ → rα ≤ k
+    → 2 * (pv * suc k) + 2 * (nΔ * f) ≤ 2 * (pΔ * f) + 2 * (nv * suc k) + (2 * f * k + T * suc k)
+one-way pv nv pd nd T k f a b rα rβ pΔ nΔ near c d h =
+    omega (arith, mul-le-mul-right (suc k) near, ap (λ (m : ℕ). m * f) c, ap (λ (m : ℕ). m * f) d, mul-le-mul-right f h)
 
 floors : (α β : ℤ) (s T F : ℕ) → 0 < s → 0 < T →
     2 * natAbs (((rounded (countedFrom α β s *ℤ pos (1000 * F)) T *ℤ pos T) *ℤ pos s) -ℤ ((β -ℤ α) *ℤ pos (1000 * F))) ≤ angleBound s T F
 unfolding angleBound
 floors α β (suc k) T F hs hT =
     let f = 1000 * F in
-    let s = suc k in
-    let D = countedFrom α β s in
-    let v = rounded (D *ℤ pos f) T in
-    let X = (v *ℤ pos T) *ℤ pos s in
-    let Y = (β -ℤ α) *ℤ pos f in
-    let d = bal-scale D f in
-    let e = bal-scale v T in
-    let x = bal-scale (v *ℤ pos T) s in
-    let y = bal-scale (β -ℤ α) f in
-    let g = in-numbers (plus v) (minus v) (plus D) (minus D) T k f (plus α) (minus α) (plus β) (minus β) (modZ α s) (modZ β s) (plus (β -ℤ α)) (minus (β -ℤ α)) (rw (d .0, d .1) at (twice (D *ℤ pos f) T hT)) (counted-is α β s hs) (bal-sub β α) (omega (arith, modZ-lt α hs)) (omega (arith, modZ-lt β hs)) in
-    let px : plus X ≡ plus v * T * s = x .0 ∙ ap (λ (m : ℕ). m * s) (e .0) in
-    let nx : minus X ≡ minus v * T * s = x .1 ∙ ap (λ (m : ℕ). m * s) (e .1) in
+    let D = countedFrom α β (suc k) in
+    let X = rounded (D *ℤ pos f) T *ℤ pos T in
+    let Δ = β -ℤ α in
+    let a = plus α + minus β in
+    let b = plus β + minus α in
+    let c = counted-is α β (suc k) hs in
+    let n = far-sub X (D *ℤ pos f) in
+    let l = rounds (D *ℤ pos f) T hT .near in
+    let e = bal-scale D f in
+    let up = one-way (plus X) (minus X) (plus D) (minus D) T k f a b (modZ α (suc k)) (modZ β (suc k)) (plus Δ) (minus Δ)
+    (omega arith) c (omega (arith, bal-sub β α)) (omega (arith, modZ-lt α hs)) in
+    let down = one-way (minus X) (plus X) (minus D) (plus D) T k f b a (modZ β (suc k)) (modZ α (suc k)) (minus Δ) (plus Δ)
+    (omega arith) (sym c) (omega (arith, bal-sub β α)) (omega (arith, modZ-lt β hs)) in
+    let x = bal-scale X (suc k) in
+    let y = bal-scale Δ f in
     let o : 2000 * F * (suc k - 1) ≡ 2000 * F * k = ap (λ (m : ℕ). 2000 * F * m) (omega arith) in
-    ⊎-elim (λ q. omega (arith, q, abs-is (X -ℤ Y), bal-sub X Y)) (λ q. omega (arith, q, abs-is (X -ℤ Y), bal-sub X Y)) (sign (X -ℤ Y))
+    ⊎-elim (λ q. omega (arith, q)) (λ q. omega (arith, q)) (far-cases (X *ℤ pos (suc k)) (Δ *ℤ pos f))
 
 -- a speed is given only where every argument is within its limits, and is the rounded quotient
-module _ (D : ℤ) (T F : ℕ) (v : ℤ) (h : speedByCount D T F ≡ Number v) where
-  pub record Given : Type 0 where
-    pub count : goodCount D ≡ true
-    pub samples : goodSamples T ≡ true
-    pub rate : goodRate F ≡ true
-    pub is : v ≡ rounded (D *ℤ pos (1000 * F)) T
-
-  pub speed-given : Given
+module _ (D : ℤ) (T F : ℕ) (v : ℤ) (h : speedByCount D T F ≡ Of v) where
+  pub speed-given : (goodSpeed D T F ≡ true) × (v ≡ rounded (D *ℤ pos (1000 * F)) T)
   unfolding speedByCount
-  speed-given = go (test (goodCount D && goodSamples T && goodRate F))
+  speed-given = go (test (goodSpeed D T F))
     where
-      go : Tested (goodCount D && goodSamples T && goodRate F) → Given
-      go (no e) = let k = rw e at h in let q : _≡_ {A = ℕ} 0 1 = cc in absurd (omega arith)
-      go (yes e) =
-          let a = and-eq-true-iff (goodCount D && goodSamples T) (goodRate F) .0 e in
-          let b = and-eq-true-iff (goodCount D) (goodSamples T) .0 (a .0) in
-          record { count = b .0; samples = b .1; rate = a .1; is = cc (rw e at h) }
+      go : Tested (goodSpeed D T F) → (goodSpeed D T F ≡ true) × (v ≡ rounded (D *ℤ pos (1000 * F)) T)
+      go (no e) = absurd (unsped-not v Value (rw e at h))
+      go (yes e) = (e, cc (rw e at h))
+
+  pub some-samples : 0 < T
+  some-samples = omega (arith, limits D T F (speed-given .0) .samples)
 
   -- HEADLINE: the first bound: twice |v T - 1000 D F| is at most T.
   pub speed-near : 2 * natAbs ((v *ℤ pos T) -ℤ (D *ℤ pos (1000 * F))) ≤ T
-  speed-near = let g = speed-given in rw (g .is) (rounds (D *ℤ pos (1000 * F)) T (samples-are T (g .samples) .0) .near)
+  speed-near = rw (speed-given .1) (rounds (D *ℤ pos (1000 * F)) T some-samples .near)
 
 -- HEADLINE: the second bound: where D is the difference of two counts that are floors of shaft angles in s-ths of a count, twice
 -- |v T s - 1000 F (angle difference)| is at most 2000 F (s - 1) + T s.
-pub speed-of-shaft : (α β : ℤ) (s T F : ℕ) (v : ℤ) → 0 < s → speedByCount (countedFrom α β s) T F ≡ Number v →
+pub speed-of-shaft : (α β : ℤ) (s T F : ℕ) (v : ℤ) → 0 < s → speedByCount (countedFrom α β s) T F ≡ Of v →
     2 * natAbs (((v *ℤ pos T) *ℤ pos s) -ℤ ((β -ℤ α) *ℤ pos (1000 * F))) ≤ angleBound s T F
 speed-of-shaft α β s T F v some h =
-    let g = speed-given (countedFrom α β s) T F v h in
-    rw (g .is) (floors α β s T F some (samples-are T (g .samples) .0))
+    rw (speed-given (countedFrom α β s) T F v h .1) (floors α β s T F some (some-samples (countedFrom α β s) T F v h))

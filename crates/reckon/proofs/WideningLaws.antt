@@ -1,25 +1,23 @@
 -- Widening by the word that holds a position, and when each refusal comes.
-use mathlib.Core.Path.{_≡_, sym, ap, _∙_}
+use mathlib.Core.Path.{_≡_, refl, sym, ap, _∙_}
 use mathlib.Core.Bool.{true, false, _&&_, and-eq-true-iff}
 use Prim.Native.Nat.{ℕ, _+_, _*_, _-_, _/_, _%_, _^_, _≤_, _<_}
 use native.Mathlib.Nat.{mod-lt, mod-eq-of-lt, div-add-mod', add-mul-mod-self-right}
 use native.Mathlib.Omega.{arith}
-use borrow.Author.Tests.{eq-eqb, ne-eqb, lt-ltb, le-ltb, ltb-true, leb-true}
-use lib.Dec.{ltb, leb}
+use borrow.Author.Tests.{eq-eqb, ne-eqb, lt-ltb, le-ltb, ltb-true, leb-true, leb-false, eqb-true, eqb-false}
+use lib.Dec.{ltb, leb, eqb}
 use lib.Pow.{pow-pos, pow-add}
 use lib.IntN.{ℤ, pos, _+ℤ_, _-ℤ_}
 use Rattle.integers.specs.Integer.{modZ}
-use Rattle.integers.proofs.Balance.{eqZ, bal-add, bal-sub, mod-turns}
-use Rattle.position.specs.Position.{inRange, positionOf, wordOf}
+use Rattle.integers.proofs.Balance.{Tested, yes, no, test, eqZ, bal-add, bal-sub, mod-turns}
+use Rattle.position.specs.Position.{inRange, isWord, positionOf, wordOf}
 use Rattle.position.proofs.PositionLaws.{range-no, position-in-range, bal-position, position-word}
 use Rattle.refusal.specs.declared.Refusal.the-variants.{Value, Half, Range}
 use Rattle.reckon.specs.declared.Reckoned.the-variants.{Number, Refused}
-use Rattle.reckon.specs.Widening.{goodWidth, goodReading, within, nearestTo, widened, aheadOf}
+use Rattle.reckon.specs.Widening.{goodWidth, goodReading, orRange, nearestTo, widened, aheadOf}
+use Rattle.reckon.proofs.NumberLaws.{between}
 
 -- ---- what the three tests of a good reading say
-
-pub width-is : (w : ℕ) → goodWidth w ≡ true → (2 ≤ w) × (w ≤ 32)
-width-is w h = let a = and-eq-true-iff (leb 2 w) (leb w 32) .0 h in (leb-true 2 w (a .0), leb-true w 32 (a .1))
 
 pub record Good (w : ℕ) (W : ℤ) (r : ℕ) : Type 0 where
   pub low : 2 ≤ w
@@ -32,7 +30,7 @@ unfolding goodReading
 good-is w W r h =
     let a = and-eq-true-iff (goodWidth w && inRange W) (ltb r (2 ^ w)) .0 h in
     let b = and-eq-true-iff (goodWidth w) (inRange W) .0 (a .0) in
-    let c = width-is w (b .0) in
+    let c = between 2 32 w (b .0) in
     record { low = c .0; high = c .1; ok = b .1; small = ltb-true r (2 ^ w) (a .1) }
 
 pub good-from : (w : ℕ) (W : ℤ) (r : ℕ) → goodWidth w ≡ true → inRange W ≡ true → r < 2 ^ w → goodReading w W r ≡ true
@@ -41,13 +39,9 @@ good-from w W r h k l = rw (h, k, lt-ltb r (2 ^ w) l)
 
 -- ---- the refusal VALUE, test by test
 
-pub bad-width : (w : ℕ) (W : ℤ) (r : ℕ) → goodWidth w ≡ false → Refused Value ≡ widened w W r
+pub bad-place : (w : ℕ) (W : ℤ) (r : ℕ) → (goodWidth w && inRange W) ≡ false → Refused Value ≡ widened w W r
 unfolding widened goodReading
-bad-width w W r h = rw h
-
-pub bad-position : (w : ℕ) (W : ℤ) (r : ℕ) → goodWidth w ≡ true → inRange W ≡ false → Refused Value ≡ widened w W r
-unfolding widened goodReading
-bad-position w W r h k = rw (h, k)
+bad-place w W r h = rw h
 
 pub bad-reading : (w : ℕ) (W : ℤ) (r : ℕ) → goodWidth w ≡ true → inRange W ≡ true → 2 ^ w ≤ r → Refused Value ≡ widened w W r
 unfolding widened goodReading
@@ -58,15 +52,6 @@ unfolding widened
 accepted w W r h = rw h
 
 -- ---- by the word: a position's word is 2 ^ 62 more, a whole number of turns
-
--- the code's two ways to the distance ahead
-pub ahead-up : (turn word r : ℕ) → 0 < turn → word % turn ≤ r → r < turn → r - word % turn ≡ aheadOf turn word r
-ahead-up turn word r p h l =
-    let e : r + (turn - word % turn) ≡ r - word % turn + 1 * turn = omega (arith, mod-lt word p) in
-    sym (rw e (add-mul-mod-self-right (r - word % turn) 1 turn ∙ mod-eq-of-lt (omega arith)))
-
-pub ahead-round : (turn word r : ℕ) → 0 < turn → r < word % turn → r + (turn - word % turn) ≡ aheadOf turn word r
-ahead-round turn word r p h = sym (mod-eq-of-lt (omega (arith, mod-lt word p)))
 
 pub ahead-small : (turn word r : ℕ) → 0 < turn → aheadOf turn word r < turn
 ahead-small turn word r p = mod-lt _ p
@@ -83,51 +68,58 @@ ahead-is w b r h =
       is = omega (arith, bal-sub (pos r) (positionOf b), bal-position b, middle w h, div-add-mod' b (2 ^ w), mod-lt b (pow-pos w));
     })
 
--- the code's four ways out, from the word b of the old position
+-- ---- what `nearestTo` gives at a distance ahead
+
+module _ (turn : ℕ) (W p : ℤ) (d : ℕ) where
+  pub below-half : 2 * d < turn → W +ℤ pos d ≡ p → nearestTo turn W d ≡ orRange p
+  unfolding nearestTo
+  below-half h e = rw (lt-ltb (2 * d) turn h, e)
+
+  pub above-half : turn < 2 * d → (W +ℤ pos d) -ℤ pos turn ≡ p → nearestTo turn W d ≡ orRange p
+  unfolding nearestTo
+  above-half h e = rw (le-ltb (2 * d) turn (omega arith), ne-eqb (2 * d) turn (λ q. omega arith), e)
+
+pub at-half : (turn : ℕ) (W : ℤ) (d : ℕ) → 2 * d ≡ turn → nearestTo turn W d ≡ Refused Half
+unfolding nearestTo
+at-half turn W d h = rw (le-ltb (2 * d) turn (omega arith), eq-eqb (2 * d) turn h)
+
+-- the code's ways out below and above half a turn, from the word b of the old position
 module _ (turn b d : ℕ) where
   abbrev W : ℤ
   W = positionOf b
 
-  up-is : W +ℤ pos d ≡ positionOf (b + d)
-  up-is = eqZ _ _ (omega (arith, bal-add W (pos d), bal-position b, bal-position (b + d)))
-
-  pub when-below : 2 * d < turn → within (positionOf (b + d)) ≡ nearestTo turn (positionOf b) d
-  unfolding nearestTo
-  when-below h = rw (lt-ltb (2 * d) turn h, up-is)
-
-  pub when-half : 2 * d ≡ turn → Refused Half ≡ nearestTo turn (positionOf b) d
-  unfolding nearestTo
-  when-half h = rw (le-ltb (2 * d) turn (omega arith), eq-eqb (2 * d) turn h)
+  pub when-below : 2 * d < turn → nearestTo turn (positionOf b) d ≡ orRange (positionOf (b + d))
+  when-below h = below-half turn W _ d h (eqZ _ _ (omega (arith, bal-add W (pos d), bal-position b, bal-position (b + d))))
 
   module _ (h : turn ≤ 2 * d) (k : 2 * d ≡ turn → ⊥) where
-    over : within ((W +ℤ pos d) -ℤ pos turn) ≡ nearestTo turn (positionOf b) d
-    unfolding nearestTo
-    over = rw (le-ltb (2 * d) turn h, ne-eqb (2 * d) turn k)
+    over : turn < 2 * d
+    over = go (test (eqb (2 * d) turn))
+      where
+        go : Tested (eqb (2 * d) turn) → turn < 2 * d
+        go (yes e) = absurd (k (eqb-true (2 * d) turn e))
+        go (no e) = let n = eqb-false (2 * d) turn e in omega arith
 
-    pub when-outside : b + d < turn → turn ≤ 2 ^ 32 → Refused Range ≡ nearestTo turn (positionOf b) d
-    unfolding within
+    pub when-outside : b + d < turn → turn ≤ 2 ^ 32 → nearestTo turn (positionOf b) d ≡ Refused Range
+    unfolding orRange
     when-outside l m =
-        rw (range-no ((W +ℤ pos d) -ℤ pos turn) (omega (arith, bal-add W (pos d), bal-sub (W +ℤ pos d) (pos turn), bal-position b)))
-        at over
+        above-half turn W _ d over refl
+        ∙ rw (range-no ((W +ℤ pos d) -ℤ pos turn) (omega (arith, bal-add W (pos d), bal-sub (W +ℤ pos d) (pos turn), bal-position b)))
 
-    pub when-above : turn ≤ b + d → within (positionOf (b + d - turn)) ≡ nearestTo turn (positionOf b) d
+    pub when-above : turn ≤ b + d → nearestTo turn (positionOf b) d ≡ orRange (positionOf (b + d - turn))
     when-above l =
-        ap within (eqZ _ _ (omega (arith, bal-position (b + d - turn), bal-add W (pos d), bal-sub (W +ℤ pos d) (pos turn), bal-position b)))
-        ∙ over
+        above-half turn W _ d over
+        (eqZ _ _ (omega (arith, bal-position (b + d - turn), bal-add W (pos d), bal-sub (W +ℤ pos d) (pos turn), bal-position b)))
 
 -- ---- a word, as a position or RANGE
 
-pub at-low : (b : ℕ) → b ≡ 0 → Refused Range ≡ within (positionOf b)
-unfolding within
-at-low b h = rw (range-no (positionOf b) (omega (arith, bal-position b)))
-
-pub at-high : (b : ℕ) → 2 ^ 63 ≤ b → Refused Range ≡ within (positionOf b)
-unfolding within
-at-high b h = rw (range-no (positionOf b) (omega (arith, bal-position b)))
-
-pub at-in : (b : ℕ) → 0 < b → b < 2 ^ 63 → Number (positionOf b) ≡ within (positionOf b)
-unfolding within
-at-in b h k = rw (position-in-range b h k)
+-- a word holds a position exactly where that is in the range
+pub word-range : (b : ℕ) → inRange (positionOf b) ≡ isWord b
+word-range b = go (test (leb 1 b)) (test (leb b (2 ^ 63 - 1)))
+  where
+    go : Tested (leb 1 b) → Tested (leb b (2 ^ 63 - 1)) → inRange (positionOf b) ≡ isWord b
+    go (no e) t = rw e (range-no (positionOf b) (omega (arith, leb-false 1 b e, bal-position b)))
+    go (yes e) (no f) = rw (e, f) (range-no (positionOf b) (omega (arith, leb-false b (2 ^ 63 - 1) f, bal-position b)))
+    go (yes e) (yes f) = rw (e, f) (position-in-range b (leb-true 1 b e) (omega (arith, leb-true b (2 ^ 63 - 1) f)))
 
 -- the whole call, by the word
 pub by-word : (w : ℕ) (W : ℤ) (r : ℕ) → goodWidth w ≡ true → inRange W ≡ true → r < 2 ^ w →

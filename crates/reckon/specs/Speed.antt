@@ -6,8 +6,20 @@ use lib.IntN.{ℤ, pos, natAbs, _*ℤ_, _-ℤ_}
 use Rattle.integers.specs.Integer.{floorZ}
 use Rattle.refusal.specs.declared.Refusal.the-variants.{Value}
 use Rattle.reckon.specs.Rounding.{rounded}
+use Rattle.reckon.specs.Reckoned.{refusalIn}
 use Rattle.reckon.specs.declared.Reckoned.{Reckoned}
-use Rattle.reckon.specs.declared.Reckoned.the-variants.{Number, Refused}
+use Rattle.reckon.specs.declared.Reckoned.the-variants.{Number, Refused as Unreckoned}
+use Rattle.reckon.specs.declared.speed.Speed.{Speed}
+use Rattle.reckon.specs.declared.speed.Speed.the-variants.{Of, Refused}
+
+-- A speed's number, as a calculation answers it.
+abbrev pub speedNumber : Speed → Reckoned
+speedNumber (Of v) = Number v
+speedNumber (Refused e) = Unreckoned e
+
+-- The number of a speed's refusal, 0 where there is none.
+abbrev pub speedRefusal : Speed → ℕ
+speedRefusal s = refusalIn (speedNumber s)
 
 -- A count difference is at most 2 ^ 31 - 1 in size.
 unfoldable pub goodCount : ℤ → Bool
@@ -15,16 +27,19 @@ goodCount D = ltb (natAbs D) (2 ^ 31)
 
 -- It is taken over 1 to 2 ^ 32 - 1 samples.
 abbrev pub goodSamples : ℕ → Bool
-goodSamples T = leb 1 T && ltb T (2 ^ 32)
+goodSamples T = leb 1 T && leb T (2 ^ 32 - 1)
 
 -- A rate is 1 to 1,000,000 samples a second.
 abbrev pub goodRate : ℕ → Bool
 goodRate F = leb 1 F && leb F 1000000
 
+-- VALUE is for a count difference, a number of samples or a rate outside its limits.
+unfoldable pub goodSpeed : ℤ → ℕ → ℕ → Bool
+goodSpeed D T F = goodCount D && goodSamples T && goodRate F
+
 -- The speed of the count difference D over T samples at rate F, in thousandths of a count a second.
-unfoldable pub speedByCount : ℤ → ℕ → ℕ → Reckoned
-speedByCount D T F =
-    cond (goodCount D && goodSamples T && goodRate F) (Number (rounded (D *ℤ pos (1000 * F)) T)) (Refused Value)
+unfoldable pub speedByCount : ℤ → ℕ → ℕ → Speed
+speedByCount D T F = cond (goodSpeed D T F) (Of (rounded (D *ℤ pos (1000 * F)) T)) (Refused Value)
 
 -- The difference of two counts that are floors of shaft angles in s-ths of a count.
 abbrev pub countedFrom : ℤ → ℤ → ℕ → ℤ

@@ -18,15 +18,15 @@ unfoldable pub goodReading : ℕ → ℤ → ℕ → Bool
 goodReading w W r = goodWidth w && inRange W && ltb r (2 ^ w)
 
 -- A widened position outside the range is RANGE.
-unfoldable pub within : ℤ → Reckoned
-within p = cond (inRange p) (Number p) (Refused Range)
+unfoldable pub orRange : ℤ → Reckoned
+orRange p = cond (inRange p) (Number p) (Refused Range)
 
 -- From W, a reading d ahead in a turn: below half it is W + d, at half HALF, above half W + d less a turn.
 unfoldable pub nearestTo : ℕ → ℤ → ℕ → Reckoned
 nearestTo turn W d =
-    cond (ltb (2 * d) turn) (within (W +ℤ pos d))
+    cond (ltb (2 * d) turn) (orRange (W +ℤ pos d))
     (cond (eqb (2 * d) turn) (Refused Half)
-    (within ((W +ℤ pos d) -ℤ pos turn)))
+    (orRange ((W +ℤ pos d) -ℤ pos turn)))
 
 -- The reading r of a counter of w bits whose last position was W.
 unfoldable pub widened : ℕ → ℤ → ℕ → Reckoned

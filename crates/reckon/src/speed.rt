@@ -4,8 +4,13 @@ ghost use Prim.Native.Nat.{_<_, _^_};
 ghost use lib.IntN.{natAbs};
 ghost use Rattle.reckon.specs.Rounding.{awayFrom, rounded};
 ghost use Rattle.reckon.specs.Speed.{goodCount, goodSamples, goodRate, speedByCount};
-use crate::Reckoned;
 use refusal::Refusal;
+
+// What a speed answers: thousandths of a count a second, or the reason for saying no.
+pub enum Speed {
+    Of(i64),
+    Refused(Refusal),
+}
 
 // Whether a count difference is within its limits.
 fn is_count(difference: i64) -> bool
@@ -18,7 +23,7 @@ fn is_count(difference: i64) -> bool
 fn is_samples(samples: u64) -> bool
     ensures { λ r. ⌜ r ≡ goodSamples samples ⌝ }
 {
-    (1 <= samples) & (samples < 0x1_0000_0000)
+    (1 <= samples) & (samples <= 0xffff_ffff)
 }
 
 // Whether a rate, in samples a second, is within its limits.
@@ -50,18 +55,12 @@ fn to_nearest(n: i64, divisor: u64) -> i64
 }
 
 // The speed of a count difference over a number of samples, in thousandths of a count a second.
-pub fn by_count(difference: i64, samples: u64, rate: u64) -> Reckoned
+pub fn by_count(difference: i64, samples: u64, rate: u64) -> Speed
     ensures { λ r. ⌜ r ≡ speedByCount difference samples rate ⌝ }
 {
-    if !is_count(difference) {
-        return Reckoned::Refused(Refusal::Value);
-    }
-    if !is_samples(samples) {
-        return Reckoned::Refused(Refusal::Value);
-    }
-    if !is_rate(rate) {
-        return Reckoned::Refused(Refusal::Value);
+    if !(is_count(difference) & is_samples(samples) & is_rate(rate)) {
+        return Speed::Refused(Refusal::Value);
     }
     let f = (1000 * rate) as i64;
-    Reckoned::Number(to_nearest(difference * f, samples))
+    Speed::Of(to_nearest(difference * f, samples))
 }

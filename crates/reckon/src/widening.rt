@@ -2,7 +2,7 @@
 ghost use mathlib.Core.Path.{_≡_};
 ghost use Prim.Native.Nat.{_≤_, _<_, _^_};
 ghost use Rattle.position.specs.Position.{positionOf};
-ghost use Rattle.reckon.specs.Widening.{goodWidth, within, nearestTo, widened, aheadOf};
+ghost use Rattle.reckon.specs.Widening.{goodWidth, orRange, nearestTo, widened, aheadOf};
 use crate::Reckoned;
 use refusal::Refusal;
 
@@ -26,21 +26,14 @@ fn ahead(turn: u64, word: u64, reading: u64) -> u64
     requires { ⌜ (reading < turn) × (turn ≤ 2 ^ 32) ⌝ }
     ensures { λ r. ⌜ r ≡ aheadOf turn word reading ⌝ }
 {
-    let at = word % turn;
-    if at <= reading {
-        return reading - at;
-    }
-    reading + (turn - at)
+    (reading + (turn - word % turn)) % turn
 }
 
 // The position of a word, or RANGE.
-fn at_word(word: u64) -> Reckoned
-    ensures { λ r. ⌜ r ≡ within (positionOf word) ⌝ }
+fn or_range(word: u64) -> Reckoned
+    ensures { λ r. ⌜ r ≡ orRange (positionOf word) ⌝ }
 {
-    if word == 0 {
-        return Reckoned::Refused(Refusal::Range);
-    }
-    if 0x7fff_ffff_ffff_ffff < word {
+    if !position::is_word(word) {
         return Reckoned::Refused(Refusal::Range);
     }
     Reckoned::Number(position::at_word(word))
@@ -52,7 +45,7 @@ fn nearest(turn: u64, word: u64, d: u64) -> Reckoned
     ensures { λ r. ⌜ r ≡ nearestTo turn (positionOf word) d ⌝ }
 {
     if 2 * d < turn {
-        return at_word(word + d);
+        return or_range(word + d);
     }
     if 2 * d == turn {
         return Reckoned::Refused(Refusal::Half);
@@ -60,17 +53,14 @@ fn nearest(turn: u64, word: u64, d: u64) -> Reckoned
     if word + d < turn {
         return Reckoned::Refused(Refusal::Range);
     }
-    at_word(word + d - turn)
+    or_range(word + d - turn)
 }
 
 // The position that a reading of a counter of `width` bits says, where the last one known is `position`.
 pub fn widen(width: u64, position: i64, reading: u64) -> Reckoned
     ensures { λ r. ⌜ r ≡ widened width position reading ⌝ }
 {
-    if !is_width(width) {
-        return Reckoned::Refused(Refusal::Value);
-    }
-    if !position::in_range(position) {
+    if !(is_width(width) & position::in_range(position)) {
         return Reckoned::Refused(Refusal::Value);
     }
     let turn = turn_of(width);

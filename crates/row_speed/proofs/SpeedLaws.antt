@@ -1,20 +1,18 @@
 -- The laws of speed by period: each answer exactly where it is due, and how near a speed is.
-use Prim.Native.Nat.{ℕ, zero, suc, _*_, _^_, _<_, _≤_}
+use Prim.Native.Nat.{ℕ, zero, suc, _-_, _*_, _^_, _<_, _≤_}
 use native.Mathlib.Omega.{arith}
 use mathlib.Core.Path.{_≡_, refl, sym}
 use mathlib.Core.Logic.{_⊎_, inl, inr, ⊎-elim}
-use mathlib.Core.Bool.{Bool, true, false, cond, _&&_}
+use mathlib.Core.Bool.{Bool, true, false, cond}
 use lib.Dec.{eqb, lit<}
 use lib.IntN.{ℤ, pos, negsuc, natAbs, _-ℤ_, _*ℤ_}
-use borrow.Author.Tests.{eq-eqb, ne-eqb, le-leb, lt-ltb}
+use borrow.Author.Tests.{eq-eqb, ne-eqb, le-leb}
 use Rattle.integers.proofs.Balance.{Tested, yes, no, test}
 use Rattle.refusal.specs.declared.Refusal.the-variants.{Kind as KIND, Value as VALUE, NoPeriod as NO-PERIOD}
-use Rattle.reckon.specs.Reckoned.{refusalIn}
 use Rattle.reckon.specs.Rounding.{rounded}
-use Rattle.reckon.specs.Speed.{goodCount, goodSamples, goodRate, speedByCount}
-use Rattle.reckon.specs.declared.Reckoned.the-variants.{Number, Refused}
-use Rattle.reckon.proofs.SpeedLaws.{good-speed, speed-near}
-use Rattle.reckon.proofs.ReckonedLaws.{refused-not}
+use Rattle.reckon.specs.Speed.{speedRefusal, goodCount, goodSamples, goodRate, goodSpeed, speedByCount}
+use Rattle.reckon.specs.declared.speed.Speed.the-variants.{Of, Refused}
+use Rattle.reckon.proofs.SpeedLaws.{unsped-not, speed-near}
 use Rattle.axis.specs.Row.{axisOf}
 use Rattle.axis_sound.specs.Sound.{statusOf, SampledAxis}
 use Rattle.axis.specs.declared.row.Axis.{Axis}
@@ -38,9 +36,9 @@ sign-good direction = go (eqb direction 2)
 -- So is the span of a sampled axis with a period within those of a number of samples.
 span-good : {a : Axis} → SampledAxis a → 0 < a .period → goodSamples (spanOf a) ≡ true
 span-good {a} s h =
-    let t : spanOf a < 2 ^ 32 = omega (arith, s .period, s .age) in
+    let t : spanOf a ≤ 2 ^ 32 - 1 = omega (arith, s .period, s .age) in
     let o : 1 ≤ spanOf a = omega arith in
-    rw (le-leb 1 (spanOf a) o, lt-ltb (spanOf a) (2 ^ 32) t)
+    rw (le-leb 1 (spanOf a) o, le-leb (spanOf a) (2 ^ 32 - 1) t)
 
 -- A direction other than 0 and 3.
 one-or-two : (d : ℕ) → d < 3 → (d ≡ 0 → ⊥) → (d ≡ 1) ⊎ (d ≡ 2)
@@ -64,11 +62,11 @@ module _ (rate : ℕ) (r : Row) (sampled : statusOf r ≡ Sampled) where
   speed-still h z = rw (sampled, h, eq-eqb (a .period) 0 z)
 
   -- HEADLINE: any other period gives a speed: the direction's sign times 1000 F over the larger of period and age, to the nearest.
-  pub speed-moving : goodRate rate ≡ true → 0 < a .period → speedRow rate r ≡ Number (rounded (signOf (a .direction) *ℤ pos (1000 * rate)) (spanOf a))
-  unfolding speedRow speedOf
+  pub speed-moving : goodRate rate ≡ true → 0 < a .period → speedRow rate r ≡ Of (rounded (signOf (a .direction) *ℤ pos (1000 * rate)) (spanOf a))
+  unfolding speedRow speedOf speedByCount goodSpeed
   speed-moving h p =
-      rw (sampled, h, ne-eqb (a .period) 0 (λ z. let idle : ⊥ = omega arith in idle))
-      (sym (good-speed (signOf (a .direction)) (spanOf a) rate (sign-good (a .direction)) (span-good (sampled-gives r sampled) p) h))
+      let some = ne-eqb (a .period) 0 (λ z. let idle : ⊥ = omega arith in idle) in
+      rw (sampled, h, some, sign-good (a .direction), span-good (sampled-gives r sampled) p)
 
   -- HEADLINE: and then the direction is forward, 1, or back, 2.
   pub speed-direction : 0 < a .period → (a .direction ≡ 1) ⊎ (a .direction ≡ 2)
@@ -78,47 +76,47 @@ module _ (rate : ℕ) (r : Row) (sampled : statusOf r ≡ Sampled) where
 
 -- ---- reasons
 
-count-past : (D : ℤ) (T F : ℕ) → Past (refusalIn (speedByCount D T F))
+count-past : (D : ℤ) (T F : ℕ) → Past (speedRefusal (speedByCount D T F))
 unfolding Past speedByCount
-count-past D T F = go (test (goodCount D && goodSamples T && goodRate F))
+count-past D T F = go (test (goodSpeed D T F))
   where
-    go : Tested (goodCount D && goodSamples T && goodRate F) → Past (refusalIn (speedByCount D T F))
+    go : Tested (goodSpeed D T F) → Past (speedRefusal (speedByCount D T F))
     go (yes g) = rw g (inl refl)
     go (no g) = rw g (inr (lit< tt))
 
-speed-past : (rate : ℕ) (a : Axis) → Past (refusalIn (speedOf rate a))
+speed-past : (rate : ℕ) (a : Axis) → Past (speedRefusal (speedOf rate a))
 unfolding Past speedOf
 speed-past rate a = go (test (goodRate rate)) (test (eqb (a .period) 0))
   where
-    go : Tested (goodRate rate) → Tested (eqb (a .period) 0) → Past (refusalIn (speedOf rate a))
+    go : Tested (goodRate rate) → Tested (eqb (a .period) 0) → Past (speedRefusal (speedOf rate a))
     go (no g) t = rw g (inr (lit< tt))
     go (yes g) (yes z) = rw (g, z) (inr (lit< tt))
     go (yes g) (no z) = rw (g, z) (count-past (signOf (a .direction)) (spanOf a) rate)
 
 -- HEADLINE: speed by period takes sampled rows.
-pub speed-reasons : (rate : ℕ) (r : Row) → Told (refusalIn (speedRow rate r)) (statusOf r) (statusOf r ≡ Counter)
+pub speed-reasons : (rate : ℕ) (r : Row) → Told (speedRefusal (speedRow rate r)) (statusOf r) (statusOf r ≡ Counter)
 unfolding speedRow
-speed-reasons rate r = sampled-only refusalIn Refused (λ e. refl) (speedOf rate (axisOf r)) (speed-past rate (axisOf r)) (statusOf r)
+speed-reasons rate r = sampled-only speedRefusal Refused (λ e. refl) (speedOf rate (axisOf r)) (speed-past rate (axisOf r)) (statusOf r)
 
 -- ---- what it was reckoned from
 
 -- What a speed was reckoned from.
-speed-from : (rate : ℕ) (r : Row) (v : ℤ) → speedRow rate r ≡ Number v →
-    (statusOf r ≡ Sampled) × (speedByCount (signOf (axisOf r .direction)) (spanOf (axisOf r)) rate ≡ Number v)
+speed-from : (rate : ℕ) (r : Row) (v : ℤ) → speedRow rate r ≡ Of v →
+    (statusOf r ≡ Sampled) × (speedByCount (signOf (axisOf r .direction)) (spanOf (axisOf r)) rate ≡ Of v)
 unfolding speedRow speedOf
 speed-from rate r v e =
     ⊎-elim
     (λ h. (h .0, go (test (goodRate rate)) (test (eqb (axisOf r .period) 0)) (h .1)))
-    (λ h. absurd (refused-not v KIND (h .1)))
-    (live Refused (speedOf rate (axisOf r)) (Refused KIND) (Number v) (refused-not v) (statusOf r) e)
+    (λ h. absurd (unsped-not v KIND (h .1)))
+    (live Refused (speedOf rate (axisOf r)) (Refused KIND) (Of v) (unsped-not v) (statusOf r) e)
   where
-    go : Tested (goodRate rate) → Tested (eqb (axisOf r .period) 0) → speedOf rate (axisOf r) ≡ Number v →
-        speedByCount (signOf (axisOf r .direction)) (spanOf (axisOf r)) rate ≡ Number v
-    go (no g) t h = absurd (refused-not v VALUE (rw g at h))
-    go (yes g) (yes z) h = absurd (refused-not v NO-PERIOD (rw (g, z) at h))
+    go : Tested (goodRate rate) → Tested (eqb (axisOf r .period) 0) → speedOf rate (axisOf r) ≡ Of v →
+        speedByCount (signOf (axisOf r .direction)) (spanOf (axisOf r)) rate ≡ Of v
+    go (no g) t h = absurd (unsped-not v VALUE (rw g at h))
+    go (yes g) (yes z) h = absurd (unsped-not v NO-PERIOD (rw (g, z) at h))
     go (yes g) (no z) h = rw (g, z) at h
 
 -- HEADLINE: with T the larger of period and age, twice |v T - 1000 F| is at most T, F with the direction's sign.
-pub speed-bound : (rate : ℕ) (r : Row) (v : ℤ) → speedRow rate r ≡ Number v →
+pub speed-bound : (rate : ℕ) (r : Row) (v : ℤ) → speedRow rate r ≡ Of v →
     2 * natAbs ((v *ℤ pos (spanOf (axisOf r))) -ℤ (signOf (axisOf r .direction) *ℤ pos (1000 * rate))) ≤ spanOf (axisOf r)
 speed-bound rate r v e = speed-near (signOf (axisOf r .direction)) (spanOf (axisOf r)) rate v (speed-from rate r v e .1)

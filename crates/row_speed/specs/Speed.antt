@@ -5,8 +5,8 @@ use lib.Dec.{eqb}
 use lib.IntN.{ℤ, pos, negsuc}
 use Rattle.refusal.specs.declared.Refusal.the-variants.{Kind as KIND, Value as VALUE, NoPeriod as NO-PERIOD}
 use Rattle.reckon.specs.Speed.{goodRate, speedByCount}
-use Rattle.reckon.specs.declared.Reckoned.{Reckoned}
-use Rattle.reckon.specs.declared.Reckoned.the-variants.{Refused as Unreckoned}
+use Rattle.reckon.specs.declared.speed.Speed.{Speed}
+use Rattle.reckon.specs.declared.speed.Speed.the-variants.{Refused}
 use Rattle.axis.specs.Row.{axisOf}
 use Rattle.axis.specs.declared.row.Axis.{Axis}
 use Rattle.axis.specs.declared.row.Row.{Row}
@@ -22,12 +22,12 @@ abbrev pub spanOf : Axis → ℕ
 spanOf a = max (a .period) (a .age)
 
 -- Speed by period on a sampled row: one count over that many samples.
-unfoldable pub speedOf : ℕ → Axis → Reckoned
+unfoldable pub speedOf : ℕ → Axis → Speed
 speedOf rate a =
     cond (goodRate rate)
-    (cond (eqb (a .period) 0) (Unreckoned NO-PERIOD) (speedByCount (signOf (a .direction)) (spanOf a) rate))
-    (Unreckoned VALUE)
+    (cond (eqb (a .period) 0) (Refused NO-PERIOD) (speedByCount (signOf (a .direction)) (spanOf a) rate))
+    (Refused VALUE)
 
 -- The answer of speed by period, on a sampled row only.
-unfoldable pub speedRow : ℕ → Row → Reckoned
-speedRow rate r = byStatus Unreckoned (speedOf rate (axisOf r)) (Unreckoned KIND) (statusOf r)
+unfoldable pub speedRow : ℕ → Row → Speed
+speedRow rate r = byStatus Refused (speedOf rate (axisOf r)) (Refused KIND) (statusOf r)

@@ -6,7 +6,7 @@ use axis::row::Axis;
 use axis::row::Row;
 use axis_sound::Status;
 use axis_sound::open;
-use reckon::Reckoned;
+use reckon::speed::Speed;
 use refusal::Refusal;
 
 // One count, with the sign of a direction.
@@ -27,29 +27,29 @@ fn larger(period: u32, age: u32) -> u64
 }
 
 // The speed of a sampled axis: VALUE, then NO PERIOD.
-fn by_period(a: Axis, rate: u64) -> Reckoned
+fn by_period(a: Axis, rate: u64) -> Speed
     ensures { λ r. ⌜ r ≡ speedOf rate a ⌝ }
 {
     if !reckon::speed::is_rate(rate) {
-        return Reckoned::Refused(Refusal::Value);
+        return Speed::Refused(Refusal::Value);
     }
     if a.period == 0 {
-        return Reckoned::Refused(Refusal::NoPeriod);
+        return Speed::Refused(Refusal::NoPeriod);
     }
     reckon::speed::by_count(sign(a.direction), larger(a.period, a.age), rate)
 }
 
 // Speed by period, at a rate in samples a second.
-pub fn speed(r: Row, rate: u64) -> Reckoned
+pub fn speed(r: Row, rate: u64) -> Speed
     ensures { λ n. ⌜ n ≡ speedRow rate r ⌝ }
 {
     let opened = open(r);
     let status = opened.status;
     let axis = opened.axis;
     match status {
-        Status::Broken => Reckoned::Refused(Refusal::Broken),
-        Status::Empty => Reckoned::Refused(Refusal::Empty),
-        Status::Counter => Reckoned::Refused(Refusal::Kind),
+        Status::Broken => Speed::Refused(Refusal::Broken),
+        Status::Empty => Speed::Refused(Refusal::Empty),
+        Status::Counter => Speed::Refused(Refusal::Kind),
         Status::Sampled => by_period(axis, rate),
     }
 }

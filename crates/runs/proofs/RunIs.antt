@@ -9,6 +9,9 @@ use lib.ListN.{length}
 use Rattle.refusal.specs.declared.Refusal.{Refusal}
 use Rattle.reckon.specs.declared.Reckoned.{Reckoned}
 use Rattle.reckon.specs.declared.Reckoned.the-variants.{Number, Refused as Unreckoned}
+use Rattle.reckon.specs.declared.speed.Speed.{Speed}
+use Rattle.reckon.specs.declared.speed.Speed.the-variants.{Refused as Unsped}
+use Rattle.reckon.proofs.SpeedLaws.{speed-one-number}
 use Rattle.axis.specs.declared.row.Row.{Row}
 use Rattle.record.specs.declared.answer.Written.{Written}
 use Rattle.record.specs.declared.answer.Written.the-variants.{Refused as Unwritten}
@@ -29,7 +32,7 @@ use Rattle.table_rows.specs.declared.Located.the-variants.{At, Refused}
 use Rattle.table_port.specs.Port.{Samples}
 use Rattle.table_port.specs.declared.Sampled.{Sampled}
 use Rattle.table.specs.Call.{Makes, viewedIn, Reads, speedIn, Saves}
-use Rattle.runs.specs.Told.{Told, refused, toldDone, toldView, toldNumber, toldBytes}
+use Rattle.runs.specs.Told.{Told, refused, toldDone, toldView, toldNumber, toldSpeed, toldBytes}
 use Rattle.runs.specs.Op.{Change, setup, erase, preset, arm, acknowledge, restore, view, speed, save, changes, reading, looks, changeRow, lookRow, ruleOf, answerOf}
 use Rattle.runs.specs.Run.{port, tableBy, tableNext, bitsOf, answerIn, heardOf, Says}
 use Rattle.runs.proofs.CallLaws.{look-keeps}
@@ -128,12 +131,12 @@ module _ {t u : List ℕ} {k : ℕ} where
       )
 
   -- HEADLINE: a speed by period, which leaves the table.
-  pub speed-is : (rate : ℕ) {a : Reckoned} → ((u ≡ t) × (a ≡ speedIn rate t k)) ↔ Says (looks (speed rate)) t k u (toldNumber a)
+  pub speed-is : (rate : ℕ) {a : Speed} → ((u ≡ t) × (a ≡ speedIn rate t k)) ↔ Says (looks (speed rate)) t k u (toldSpeed a)
   unfolding tableNext answerIn answerOf lookRow
   speed-is rate {a} =
-      let told = tell-found toldNumber Unreckoned (speedRow rate) (λ e. refl) (located t k) in (
-        (λ w. record { table = w .0 ∙ sym (look-keeps t k (speed rate)); told = ap toldNumber (w .1) ∙ told }),
-        (λ s. (s .table ∙ look-keeps t k (speed rate), number-only a _ (s .told ∙ sym told))),
+      let told = tell-found toldSpeed Unsped (speedRow rate) (λ e. refl) (located t k) in (
+        (λ w. record { table = w .0 ∙ sym (look-keeps t k (speed rate)); told = ap toldSpeed (w .1) ∙ told }),
+        (λ s. (s .table ∙ look-keeps t k (speed rate), speed-one-number a _ (number-only _ _ (s .told ∙ sym told)))),
       )
 
 -- HEADLINE: a save, which leaves the table: b is what the buffer holds before it, d after it.

@@ -14,7 +14,7 @@ use Rattle.row_speed.specs.Speed.{speedRow}
 use Rattle.row_counter.specs.Reading.{readingRow, readRow}
 use Rattle.row_calls.specs.declared.answer.Changed.{Changed}
 use Rattle.row_calls.specs.declared.answer.Changed.the-variants.{To}
-use Rattle.runs.specs.Told.{Told, refused, toldDone, toldView, toldNumber, toldBytes}
+use Rattle.runs.specs.Told.{Told, refused, toldDone, toldView, toldNumber, toldSpeed, toldBytes}
 
 -- A call that makes another row of the named one and answers only that it did: setup by kind, depth, width and counts per turn, restore by the
 -- record's bytes.
@@ -49,7 +49,7 @@ changeRow (restore bytes) = restoreRow bytes
 -- What a look tells of a row.
 unfoldable pub lookRow : Look → Row → Told
 lookRow view r = toldView (viewRow r)
-lookRow (speed rate) r = toldNumber (speedRow rate r)
+lookRow (speed rate) r = toldSpeed (speedRow rate r)
 lookRow (save buffer) r = toldBytes (saveRow (length buffer) r) (savedIn buffer r)
 
 -- What a call makes of a row: a look, the row itself.

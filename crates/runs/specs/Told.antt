@@ -5,8 +5,10 @@ use mathlib.Core.List.{List}
 use lib.IntN.{ℤ}
 use lib.ListN.{take}
 use Rattle.refusal.specs.declared.Refusal.{Refusal}
+use Rattle.reckon.specs.Speed.{speedNumber}
 use Rattle.reckon.specs.declared.Reckoned.{Reckoned}
 use Rattle.reckon.specs.declared.Reckoned.the-variants.{Number, Refused as Unreckoned}
+use Rattle.reckon.specs.declared.speed.Speed.{Speed}
 use Rattle.axis_sample.specs.declared.step.SteppedRow.{SteppedRow}
 use Rattle.record.specs.declared.answer.Written.{Written}
 use Rattle.record.specs.declared.answer.Written.the-variants.{Bytes, Refused as Unwritten}
@@ -47,6 +49,9 @@ toldView (Unseen e) = refused e
 abbrev pub toldNumber : Reckoned → Told
 toldNumber (Number z) = number z
 toldNumber (Unreckoned e) = refused e
+
+abbrev pub toldSpeed : Speed → Told
+toldSpeed s = toldNumber (speedNumber s)
 
 -- A save tells the bytes that it wrote, of what the buffer holds after it.
 abbrev pub toldBytes : Written → List ℕ → Told

@@ -3,7 +3,7 @@ use Prim.Native.Nat.{ℕ, _*_, _<_, _≤_}
 use native.Mathlib.Omega.{arith}
 use mathlib.Core.Path.{_≡_, refl, sym, ap}
 use mathlib.Core.Logic.{_≢_, _↔_, inl, inr, ⊎-elim}
-use mathlib.Core.Bool.{Bool, true, false, cond, _&&_}
+use mathlib.Core.Bool.{Bool, true, false, cond}
 use mathlib.Core.List.{List}
 use lib.Dec.{eqb, leb, ltb, lit<}
 use lib.IntN.{ℤ}
@@ -15,10 +15,11 @@ use Rattle.refusal.specs.declared.Refusal.{Refusal}
 use Rattle.refusal.specs.declared.Refusal.the-variants.{Length, Axis, Broken as BROKEN, Empty as EMPTY, NoPeriod, Room}
 use Rattle.reckon.specs.Reckoned.{refusalIn}
 use Rattle.reckon.specs.Nearest.{Verdict, value, half, range, at}
-use Rattle.reckon.specs.Speed.{goodCount, goodSamples, goodRate, speedByCount}
+use Rattle.reckon.specs.Speed.{speedRefusal, goodRate, goodSpeed, speedByCount}
 use Rattle.reckon.specs.Widening.{widened}
 use Rattle.reckon.specs.declared.Reckoned.{Reckoned}
 use Rattle.reckon.specs.declared.Reckoned.the-variants.{Refused as Unreckoned}
+use Rattle.reckon.specs.declared.speed.Speed.the-variants.{Refused as Unsped}
 use Rattle.reckon.proofs.NearestLaws.{verdict}
 use Rattle.axis.specs.Config.{goodConfig}
 use Rattle.axis.specs.Row.{axisOf}
@@ -188,17 +189,17 @@ reading-late x r =
     let a = axisOf r in
     by-status refusalIn Unreckoned (λ e. refl) _ _ (inr (lit< tt)) (widened-late (a .width) (positionOf (a .word)) x) (statusOf r)
 
-count-late : (D : ℤ) (T F : ℕ) → After Axis (refusalIn (speedByCount D T F))
+count-late : (D : ℤ) (T F : ℕ) → After Axis (speedRefusal (speedByCount D T F))
 unfolding speedByCount
-count-late D T F = either refusalIn Axis (goodCount D && goodSamples T && goodRate F) _ _ (inl refl) (inr (lit< tt))
+count-late D T F = either speedRefusal Axis (goodSpeed D T F) _ _ (inl refl) (inr (lit< tt))
 
-pub speed-late : (rate : ℕ) (r : Row) → After Axis (refusalIn (speedRow rate r))
+pub speed-late : (rate : ℕ) (r : Row) → After Axis (speedRefusal (speedRow rate r))
 unfolding speedRow speedOf
 speed-late rate r =
     let a = axisOf r in
-    let counted = either refusalIn Axis (eqb (a .period) 0) (Unreckoned NoPeriod) (speedByCount (signOf (a .direction)) (spanOf a) rate)
+    let counted = either speedRefusal Axis (eqb (a .period) 0) (Unsped NoPeriod) (speedByCount (signOf (a .direction)) (spanOf a) rate)
     (inr (lit< tt)) (count-late (signOf (a .direction)) (spanOf a) rate) in
-    by-status refusalIn Unreckoned (λ e. refl) _ _ (either refusalIn Axis (goodRate rate) _ _ counted (inr (lit< tt))) (inr (lit< tt)) (statusOf r)
+    by-status speedRefusal Unsped (λ e. refl) _ _ (either speedRefusal Axis (goodRate rate) _ _ counted (inr (lit< tt))) (inr (lit< tt)) (statusOf r)
 
 saved-late : (room : ℕ) (s : Saved) → After Axis (writtenNumber (savedAs room s))
 unfolding savedAs
@@ -267,8 +268,8 @@ pub reading-ordered : (x : ℕ) (t : List ℕ) (k : ℕ) → Ordered refusalIn (
 reading-ordered x t k = in-order refusalIn Unreckoned (λ e. refl) (readingRow x) t k (reading-late x)
 
 -- HEADLINE: so does speed by period.
-pub speed-ordered : (rate : ℕ) (t : List ℕ) (k : ℕ) → Ordered refusalIn (speedRow rate) t k (speedIn rate t k)
-speed-ordered rate t k = in-order refusalIn Unreckoned (λ e. refl) (speedRow rate) t k (speed-late rate)
+pub speed-ordered : (rate : ℕ) (t : List ℕ) (k : ℕ) → Ordered speedRefusal (speedRow rate) t k (speedIn rate t k)
+speed-ordered rate t k = in-order speedRefusal Unsped (λ e. refl) (speedRow rate) t k (speed-late rate)
 
 -- HEADLINE: so does save.
 pub save-ordered : (room : ℕ) (t : List ℕ) (k : ℕ) → Ordered writtenNumber (saveRow room) t k (saveIn room t k)

@@ -4,6 +4,7 @@ use mathlib.Core.Path.{_≡_}
 use mathlib.Core.List.{List}
 use Rattle.refusal.proofs.OutcomeLaws.{one}
 use Rattle.reckon.specs.declared.Reckoned.{Reckoned}
+use Rattle.reckon.specs.declared.speed.Speed.{Speed}
 use Rattle.record.specs.declared.answer.Written.{Written}
 use Rattle.axis.specs.declared.row.Row.{Row}
 use Rattle.row_calls.specs.declared.answer.Changed.{Changed}
@@ -28,5 +29,5 @@ pub view-one : (t : List ℕ) (k : ℕ) {a b : Viewed} → a ≡ viewedIn t k �
 view-one t k p q = one p q
 
 -- HEADLINE: so has speed by period.
-pub speed-one : (rate : ℕ) (t : List ℕ) (k : ℕ) {a b : Reckoned} → a ≡ speedIn rate t k → b ≡ speedIn rate t k → a ≡ b
+pub speed-one : (rate : ℕ) (t : List ℕ) (k : ℕ) {a b : Speed} → a ≡ speedIn rate t k → b ≡ speedIn rate t k → a ≡ b
 speed-one rate t k p q = one p q

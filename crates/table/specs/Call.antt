@@ -6,6 +6,8 @@ use mathlib.Core.List.{List}
 use lib.ListN.{length, getD, take, drop}
 use Rattle.reckon.specs.declared.Reckoned.{Reckoned}
 use Rattle.reckon.specs.declared.Reckoned.the-variants.{Refused as Unreckoned}
+use Rattle.reckon.specs.declared.speed.Speed.{Speed}
+use Rattle.reckon.specs.declared.speed.Speed.the-variants.{Refused as Unsped}
 use Rattle.record.specs.declared.answer.Written.{Written}
 use Rattle.record.specs.declared.answer.Written.the-variants.{Refused as Unwritten}
 use Rattle.axis.specs.declared.row.Row.{Row}
@@ -60,8 +62,8 @@ pub record Reads (x : ℕ) (t : List ℕ) (k : ℕ) (u : List ℕ) (a : Reckoned
   pub table : u ≡ tableAfter t k (ruled (readRow x) t k)
 
 -- What a speed by period answers.
-abbrev pub speedIn : ℕ → List ℕ → ℕ → Reckoned
-speedIn rate t k = onFound Unreckoned (speedRow rate) (located t k)
+abbrev pub speedIn : ℕ → List ℕ → ℕ → Speed
+speedIn rate t k = onFound Unsped (speedRow rate) (located t k)
 
 -- What a save answers, by the room in the buffer.
 abbrev pub saveIn : ℕ → List ℕ → ℕ → Written

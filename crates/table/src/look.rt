@@ -1,7 +1,7 @@
 // View, and speed by period: the calls that only look.
 ghost use mathlib.Core.Path.{_≡_};
 ghost use Rattle.table.specs.Call.{viewedIn, speedIn};
-use reckon::Reckoned;
+use reckon::speed::Speed;
 use row_calls::answer::Viewed;
 use table_rows::Located;
 use table_rows::locate;
@@ -17,11 +17,11 @@ pub fn view(table: &[u64], axis: u64) -> Viewed
 }
 
 // Speed by period, at a rate in samples a second: LENGTH, AXIS, BROKEN, EMPTY, KIND, VALUE, NO PERIOD.
-pub fn speed(table: &[u64], axis: u64, rate: u64) -> Reckoned
+pub fn speed(table: &[u64], axis: u64, rate: u64) -> Speed
     ensures { λ n. ⌜ n ≡ speedIn rate (now (table .entry)) axis ⌝ }
 {
     match locate(table, axis) {
-        Located::Refused(e) => Reckoned::Refused(e),
+        Located::Refused(e) => Speed::Refused(e),
         Located::At(row) => row_speed::speed(row, rate),
     }
 }

@@ -17,7 +17,7 @@ use Rattle.integers.specs.Integer.{plus, minus}
 use Rattle.integers.proofs.Balance.{abs-is, bal-sub, ltZ-true}
 use Rattle.integers.proofs.Machine.{i64-fits, fits-size, no-neg, no-pos, abs-nonneg}
 use Rattle.tagged.proofs.StoreLaws.{sets-then}
-use Rattle.text.specs.Text.{FEED, MINUS, ZERO, SAMPLES, POSITION, DOUBLES, decimal, numeral, lineOf, textOf, Puts}
+use Rattle.text.specs.Text.{FEED, MINUS, ZERO, samplesLabel, positionLabel, doublesLabel, decimal, numeral, lineOf, textOf, Puts}
 use Rattle.text.specs.declared.report.Report.{Report}
 use Rattle.text.proofs.DecimalLaws.{decimal-some, decimal-one, decimal-more, decimal-length}
 
@@ -78,13 +78,13 @@ numeral-above (pos n) e = refl
 numeral-above (negsuc n) e = absurd (subst T e tt)
 
 -- A position below zero stands behind a -.
-pub position-below : (z : ℤ) → ltZ z (pos 0) ≡ true → lineOf POSITION (numeral z) ≡ lineOf (POSITION ++ (MINUS ∷ [])) (decimal (natAbs z))
+pub position-below : (z : ℤ) → ltZ z (pos 0) ≡ true → lineOf positionLabel (numeral z) ≡ lineOf (positionLabel ++ (MINUS ∷ [])) (decimal (natAbs z))
 unfolding lineOf
 position-below z e = rw (numeral-below z e)
 
 -- Any other does not.
-pub position-above : (z : ℤ) → ltZ z (pos 0) ≡ false → lineOf POSITION (numeral z) ≡ lineOf POSITION (decimal (natAbs z))
-position-above z e = ap (lineOf POSITION) (numeral-above z e)
+pub position-above : (z : ℤ) → ltZ z (pos 0) ≡ false → lineOf positionLabel (numeral z) ≡ lineOf positionLabel (decimal (natAbs z))
+position-above z e = ap (lineOf positionLabel) (numeral-above z e)
 
 -- A number z below zero: -1 - z is one short of its size, and the machine holds both.
 module _ (z : ℤ) (f : SFits w64 z) (h : ltZ z (pos 0) ≡ true) where
@@ -115,21 +115,21 @@ module _ (z : ℤ) (f : SFits w64 z) (h : ltZ z (pos 0) ≡ true) where
 line-room : (label : List ℕ) (k n : ℕ) → n < 10 ^ suc k → length (lineOf label (decimal n)) ≤ length label + suc k + 1
 line-room label k n h = omega (arith, line-length label (decimal n), decimal-length k n h)
 
-pub samples-room : (n : ℕ) → n < 2 ^ 64 → length (lineOf SAMPLES (decimal n)) ≤ 29
-samples-room n h = line-room SAMPLES 19 n (omega arith)
+pub samples-room : (n : ℕ) → n < 2 ^ 64 → length (lineOf samplesLabel (decimal n)) ≤ 29
+samples-room n h = line-room samplesLabel 19 n (omega arith)
 
-pub doubles-room : (n : ℕ) → n < 2 ^ 16 → length (lineOf DOUBLES (decimal n)) ≤ 14
-doubles-room n h = line-room DOUBLES 4 n (omega arith)
+pub doubles-room : (n : ℕ) → n < 2 ^ 16 → length (lineOf doublesLabel (decimal n)) ≤ 14
+doubles-room n h = line-room doublesLabel 4 n (omega arith)
 
-pub position-room : (z : ℤ) → SFits w64 z → length (lineOf POSITION (numeral z)) ≤ 30
+pub position-room : (z : ℤ) → SFits w64 z → length (lineOf positionLabel (numeral z)) ≤ 30
 unfolding numeral
-position-room (pos n) f = let h = i64-fits f in omega (arith, line-room POSITION 18 n (omega arith))
+position-room (pos n) f = let h = i64-fits f in omega (arith, line-room positionLabel 18 n (omega arith))
 position-room (negsuc n) f =
-    let h = i64-fits f in omega (arith, line-length POSITION (MINUS ∷ decimal (suc n)), decimal-length 18 (suc n) (omega arith))
+    let h = i64-fits f in omega (arith, line-length positionLabel (MINUS ∷ decimal (suc n)), decimal-length 18 (suc n) (omega arith))
 
 -- The three lines in a row are the report's text.
 pub puts-text : (r : Report) {b m l d : List ℕ} {i j n : ℕ} →
-    Puts (lineOf SAMPLES (decimal (r .samples))) b 0 m i → Puts (lineOf POSITION (numeral (r .position))) m i l j → Puts (lineOf DOUBLES (decimal (r .doubles))) l j d n →
+    Puts (lineOf samplesLabel (decimal (r .samples))) b 0 m i → Puts (lineOf positionLabel (numeral (r .position))) m i l j → Puts (lineOf doublesLabel (decimal (r .doubles))) l j d n →
     Puts (textOf r) b 0 d n
 unfolding textOf
 puts-text r p q f = puts-then p (puts-then q f)

@@ -45,20 +45,20 @@ unfoldable pub lineOf : List ℕ → List ℕ → List ℕ
 lineOf label number = label ++ (number ++ (FEED ∷ []))
 
 -- The label of the samples, `samples` and a space.
-abbrev pub SAMPLES : List ℕ
-SAMPLES = 115 ∷ 97 ∷ 109 ∷ 112 ∷ 108 ∷ 101 ∷ 115 ∷ 32 ∷ []
+abbrev pub samplesLabel : List ℕ
+samplesLabel = 115 ∷ 97 ∷ 109 ∷ 112 ∷ 108 ∷ 101 ∷ 115 ∷ 32 ∷ []
 
 -- The label of the position, `position` and a space.
-abbrev pub POSITION : List ℕ
-POSITION = 112 ∷ 111 ∷ 115 ∷ 105 ∷ 116 ∷ 105 ∷ 111 ∷ 110 ∷ 32 ∷ []
+abbrev pub positionLabel : List ℕ
+positionLabel = 112 ∷ 111 ∷ 115 ∷ 105 ∷ 116 ∷ 105 ∷ 111 ∷ 110 ∷ 32 ∷ []
 
 -- The label of the doubles, `doubles` and a space.
-abbrev pub DOUBLES : List ℕ
-DOUBLES = 100 ∷ 111 ∷ 117 ∷ 98 ∷ 108 ∷ 101 ∷ 115 ∷ 32 ∷ []
+abbrev pub doublesLabel : List ℕ
+doublesLabel = 100 ∷ 111 ∷ 117 ∷ 98 ∷ 108 ∷ 101 ∷ 115 ∷ 32 ∷ []
 
 -- The three lines of a report.
 unfoldable pub textOf : Report → List ℕ
-textOf r = lineOf SAMPLES (decimal (r .samples)) ++ (lineOf POSITION (numeral (r .position)) ++ lineOf DOUBLES (decimal (r .doubles)))
+textOf r = lineOf samplesLabel (decimal (r .samples)) ++ (lineOf positionLabel (numeral (r .position)) ++ lineOf doublesLabel (decimal (r .doubles)))
 
 -- What putting bytes from a place on promises: b before, d after, and the place behind them.
 pub record Puts (bytes b : List ℕ) (at : ℕ) (d : List ℕ) (next : ℕ) : Type 0 where

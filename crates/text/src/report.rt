@@ -1,7 +1,7 @@
 // What a trace has counted, and its three lines of text.
 ghost use Prim.Native.Nat.{_+_, _≤_};
 ghost use lib.ListN.{length};
-ghost use Rattle.text.specs.Text.{numeral, lineOf, POSITION, Puts, Writes};
+ghost use Rattle.text.specs.Text.{numeral, lineOf, positionLabel, Puts, Writes};
 use crate::put::put_line;
 use crate::put::size;
 
@@ -17,8 +17,8 @@ pub struct Report {
 
 // The line of a position, with a - below zero.
 fn put_position(out: &mut [u8], at: usize, position: i64) -> usize
-    requires { ⌜ at + length (lineOf POSITION (numeral position)) ≤ length (now out) ⌝ }
-    ensures { λ r. ⌜ Puts (lineOf POSITION (numeral position)) (now (out .entry)) at (now (out .exit)) r ⌝ }
+    requires { ⌜ at + length (lineOf positionLabel (numeral position)) ≤ length (now out) ⌝ }
+    ensures { λ r. ⌜ Puts (lineOf positionLabel (numeral position)) (now (out .entry)) at (now (out .exit)) r ⌝ }
 {
     if position < 0 {
         return put_line(out, at, b"position -", size(position));

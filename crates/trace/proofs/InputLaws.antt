@@ -6,7 +6,7 @@ use mathlib.Core.List.{[], _++_}
 use Rattle.trace_axis.specs.Trace.{LIMIT, fedWith}
 use Rattle.trace_axis.specs.declared.trace.Trace.{Trace}
 use Rattle.trace_axis.proofs.TraceLaws.{cut, fed-none, fed-grows}
-use Rattle.trace.specs.Input.{Feeds, Reads}
+use Rattle.trace.specs.Input.{Feeds, InputRead}
 use Rattle.trace.specs.declared.Input.{Input}
 use Rattle.trace.specs.declared.Input.the-variants.{Bytes, End, Failed}
 use Rattle.trace.specs.declared.Turn.{Turn}
@@ -23,7 +23,7 @@ feeds-on {x} p q = record {
 }
 
 -- A read that found no bytes.
-pub no-bytes : (x : Trace) (i : Input) → (i ≡ Bytes → ⊥) → Reads x (record { trace = x; input = i })
+pub no-bytes : (x : Trace) (i : Input) → (i ≡ Bytes → ⊥) → InputRead x (record { trace = x; input = i })
 no-bytes x i h = record { feeds = feeds-none x; some = λ e. absurd (h e) }
 
 pub end-none : End ≡ Bytes → ⊥
@@ -33,5 +33,5 @@ pub failed-none : Failed ≡ Bytes → ⊥
 failed-none e = let z : _≡_ {A = ℕ} 0 1 = cc in omega arith
 
 -- Every read that finds bytes leaves fewer to look at.
-pub fewer-left : (x : Trace) (t : Turn) → Reads x t → t .input ≡ Bytes → x .samples < LIMIT → LIMIT - t .trace .samples < LIMIT - x .samples
+pub fewer-left : (x : Trace) (t : Turn) → InputRead x t → t .input ≡ Bytes → x .samples < LIMIT → LIMIT - t .trace .samples < LIMIT - x .samples
 fewer-left x t r e h = let g = fed-grows x (r .feeds .bytes) h (r .some e) in omega (arith, ap (λ (y : Trace). y .samples) (r .feeds .trace))

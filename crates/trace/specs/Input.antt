@@ -14,6 +14,6 @@ pub record Feeds (x y : Trace) : Type 0 where
   pub trace : y ≡ fedWith x bytes
 
 -- What one read promises: it feeds some bytes, at least one where it found any.
-pub record Reads (x : Trace) (t : Turn) : Type 0 where
+pub record InputRead (x : Trace) (t : Turn) : Type 0 where
   pub feeds : Feeds x (t .trace)
   pub some : t .input ≡ Bytes → 0 < length (feeds .bytes)

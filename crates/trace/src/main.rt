@@ -1,6 +1,6 @@
 // Traces one x4 axis: standard input is its samples, a byte each, and what they came to goes to standard output.
 ghost use Rattle.trace_axis.specs.Trace.{started};
-ghost use Rattle.trace.specs.Input.{Feeds, Reads};
+ghost use Rattle.trace.specs.Input.{Feeds, InputRead};
 use libc::STDIN_FILENO;
 use libc::STDOUT_FILENO;
 use trace_axis::trace::LIMIT;
@@ -21,7 +21,7 @@ struct Turn {
 
 // The trace after one read more.
 fn read_once(trace: Trace, buf: &mut [u8]) -> Turn
-    ensures { λ t. ⌜ Reads trace t ⌝ }
+    ensures { λ t. ⌜ InputRead trace t ⌝ }
 {
     let got = libc::read(STDIN_FILENO, buf);
     if got < 0 {

@@ -1,3 +1,4 @@
+-- The program: whatever was read, the report's lines fit their buffer.
 use mathlib.Core.Path.{sym}
 use lib.Seq.{length-take-le}
 use borrow.Author.Needs.{needs}

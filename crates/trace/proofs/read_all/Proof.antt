@@ -1,3 +1,4 @@
+-- Reading to the end: a trace fed the bytes so far, and fewer left to look at after each read.
 use Prim.Native.Nat.{_-_}
 use native.Mathlib.Omega.{arith}
 use borrow.Author.Needs.{needs}

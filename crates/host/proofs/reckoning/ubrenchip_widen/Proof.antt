@@ -1,7 +1,7 @@
 use borrow.Author.Needs.{needs}
 use mathlib.Core.Path.{ap, _∙_}
 use Rattle.integers.proofs.Machine.{back}
-use Rattle.host.specs.Answer.{answerTo}
+use Rattle.host_answers.specs.Answer.{answerTo}
 use Rattle.host.proofs.reckoning.ubrenchip_widen.Statement.{statement}
 use Rattle.host.proofs.reckoning.ubrenchip_widen.Tie as tie
 

@@ -1,3 +1,4 @@
+-- A view to C: its values where it shows, and the refusal's two numbers where it does not.
 use mir.Syntax.{w64}
 use mir.Val.{SFits}
 use Rattle.integers.proofs.Machine.{back}
@@ -8,9 +9,6 @@ use Rattle.host_answers.proofs.view.of_viewed.Tie as tie
 
 enum-known-v : tie.Need-enum-known-v
 enum-known-v c = search needs
-
-cast-t5 : tie.Need-cast-t5
-cast-t5 c = search needs
 
 cast-t6 : tie.Need-cast-t6
 cast-t6 c = search needs
@@ -30,14 +28,14 @@ cast-t10 c = search needs
 cast-t11 : tie.Need-cast-t11
 cast-t11 c = search needs
 
+cast-t12 : tie.Need-cast-t12
+cast-t12 c = search needs
+
 enum-known-v-2 : tie.Need-enum-known-v-2
 enum-known-v-2 c = search needs
 
-number-requires : tie.Need-number-requires
-number-requires c κs = search needs
-
-found-requires : tie.Need-found-requires
-found-requires c κs = search needs
+of-refusal-requires : tie.Need-of-refusal-requires
+of-refusal-requires c κs = search needs
 
 returns : tie.Need-returns
 unfolding answerView
@@ -48,22 +46,21 @@ returns c =
 
 returns-2 : tie.Need-returns-2
 unfolding answerView
-returns-2 c = rw (c .before .before .before .v2 .given .1, c .before .number .ensures, c .found .ensures)
+returns-2 c = rw (c .before .before .v2 .given .1, c .of-refusal .ensures)
 
 pub of-viewed-spec : {M : Type 1} → statement M
 of-viewed-spec =
     tie.close
     (tie.spec
     enum-known-v
-    cast-t5
     cast-t6
     cast-t7
     cast-t8
     cast-t9
     cast-t10
     cast-t11
+    cast-t12
     enum-known-v-2
-    number-requires
-    found-requires
+    of-refusal-requires
     returns
     returns-2)

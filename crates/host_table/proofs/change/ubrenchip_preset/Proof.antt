@@ -1,6 +1,4 @@
 use Rattle.integers.proofs.Machine.{back}
-use Rattle.host_answers.specs.Answer.{answerDone}
-use Rattle.host_table.proofs.CallLaws.{shows}
 use borrow.Author.Needs.{needs}
 use Rattle.host_table.proofs.change.ubrenchip_preset.Statement.{statement}
 use Rattle.host_table.proofs.change.ubrenchip_preset.Tie as tie
@@ -17,8 +15,7 @@ same-length c = search needs
 returns : tie.Need-returns
 returns c =
     let start = c .before .before .before .before .before .before in
-    let made = rw (back (start .fits .position)) at (c .before .before .before .preset .ensures) in
-    shows answerDone (c .of-done .ensures) (made .answer) (made .table)
+    record { said = _; claimed = rw (back (start .fits .position)) at (c .before .before .before .preset .ensures); answer = c .of-done .ensures }
 
 pub ubrenchip-preset-spec : {M : Type 1} → statement M
 ubrenchip-preset-spec = tie.close (tie.spec preset-requires of-done-requires same-length returns)

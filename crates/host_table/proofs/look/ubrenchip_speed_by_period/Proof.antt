@@ -1,5 +1,5 @@
 use mathlib.Core.Path.{ap, _∙_}
-use Rattle.host.specs.Answer.{answerTo}
+use Rattle.host_answers.specs.Answer.{answerSpeed}
 use borrow.Author.Needs.{needs}
 use Rattle.host_table.proofs.look.ubrenchip_speed_by_period.Statement.{statement}
 use Rattle.host_table.proofs.look.ubrenchip_speed_by_period.Tie as tie
@@ -7,11 +7,11 @@ use Rattle.host_table.proofs.look.ubrenchip_speed_by_period.Tie as tie
 speed-requires : tie.Need-speed-requires
 speed-requires c κs = search needs
 
-of-reckoned-requires : tie.Need-of-reckoned-requires
-of-reckoned-requires c κs = search needs
+of-speed-requires : tie.Need-of-speed-requires
+of-speed-requires c κs = search needs
 
 returns : tie.Need-returns
-returns c = c .of-reckoned .ensures ∙ ap answerTo (c .before .speed .ensures)
+returns c = c .of-speed .ensures ∙ ap answerSpeed (c .before .speed .ensures)
 
 pub ubrenchip-speed-by-period-spec : {M : Type 1} → statement M
-ubrenchip-speed-by-period-spec = tie.close (tie.spec speed-requires of-reckoned-requires returns)
+ubrenchip-speed-by-period-spec = tie.close (tie.spec speed-requires of-speed-requires returns)

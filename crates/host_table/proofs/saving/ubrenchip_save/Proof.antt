@@ -1,5 +1,3 @@
-use Rattle.host_answers.specs.Answer.{answerWritten}
-use Rattle.host_table.proofs.CallLaws.{shows}
 use Rattle.host_table.proofs.SaveLaws.{save-few}
 use borrow.Author.Needs.{needs}
 use Rattle.host_table.proofs.saving.ubrenchip_save.Statement.{statement}
@@ -15,7 +13,7 @@ same-length : tie.Need-same-length
 same-length c = search needs
 
 returns : tie.Need-returns
-returns c = shows answerWritten (c .of-written .ensures) (c .before .before .before .save .ensures .answer) (c .before .before .before .save .ensures .buffer)
+returns c = search needs
 
 pub ubrenchip-save-spec : {M : Type 1} → statement M
 ubrenchip-save-spec = tie.close (tie.spec save-requires of-written-requires same-length returns)

@@ -1,8 +1,9 @@
+-- Speed by count: the three tests are the definition's one, and then the product and its quotient fit.
 use borrow.Author.Needs.{needs}
 use borrow.Author.Tests.{not-true, not-false}
 use mathlib.Core.Path.{_≡_, sym, ap, _∙_}
-use mathlib.Core.Bool.{true}
-use Prim.Native.Nat.{ℕ, _*_, _^_, _<_, _≤_}
+use mathlib.Core.Bool.{true, _&&_}
+use Prim.Native.Nat.{ℕ, _*_, _^_, _<_}
 use native.Mathlib.Omega.{arith}
 use lib.IntN.{pos, natAbs, _*ℤ_}
 use mir.Syntax.{w64}
@@ -10,39 +11,41 @@ use mir.Val.{toZ, ofZ, SFits}
 use mir.Facts.{toZ-pos}
 use Rattle.integers.proofs.Balance.{abs-is}
 use Rattle.integers.proofs.Machine.{back, back-ok, fits-size}
-use Rattle.reckon.specs.Speed.{goodCount, goodSamples, goodRate}
-use Rattle.reckon.specs.declared.Reckoned.the-variants.{Number}
-use Rattle.reckon.proofs.SpeedLaws.{bad-count, bad-samples, bad-rate, good-speed, samples-are, rate-is, product-small}
+use Rattle.reckon.specs.Speed.{goodSpeed, speedByCount}
+use Rattle.reckon.specs.declared.speed.Speed.the-variants.{Of}
+use Rattle.reckon.proofs.SpeedLaws.{Limits, limits, product-small}
 use Rattle.reckon.proofs.speed.by_count.Statement.{statement}
 use Rattle.reckon.proofs.speed.by_count.Tie as tie
 
-count : (c : tie.Else1) → goodCount (c .before .before .args .difference) ≡ true
-count c = sym (rw (back (c .before .before .fits .difference)) at (c .before .is-count .ensures)) ∙ not-false _ (c .if1 .left)
+-- the three tests are the one of the definition
+tested : (c : tie.After-is-rate) → let a = c .before .before .before .args in
+    (c .before .before .is-count .result && c .before .is-samples .result && c .is-rate .result) ≡ goodSpeed (a .difference) (a .samples) (a .rate)
+unfolding goodSpeed
+tested c =
+    let s = c .before .before .before in
+    rw (rw (back (s .fits .difference)) at (c .before .before .is-count .ensures), c .before .is-samples .ensures, c .is-rate .ensures)
 
-samples : (c : tie.Else2) → goodSamples (c .before .before .before .before .args .samples) ≡ true
-samples c = sym (c .before .is-samples .ensures) ∙ not-false _ (c .if2 .left)
-
-rate : (c : tie.Else3) → goodRate (c .before .before .before .before .before .before .args .rate) ≡ true
-rate c = sym (c .before .is-rate .ensures) ∙ not-false _ (c .if3 .left)
-
-module _ (c : tie.Else3) where
+module _ (c : tie.Else1) where
   abbrev s : tie.Start
-  s = c .before .before .before .before .before .before
+  s = c .before .before .before .before
 
   abbrev f : ℕ
   f = 1000 * s .args .rate
 
-  slow : f ≤ 1000000000
-  slow = omega (arith, rate-is (s .args .rate) (rate c))
+  good : goodSpeed (s .args .difference) (s .args .samples) (s .args .rate) ≡ true
+  good = sym (tested (c .before)) ∙ not-false _ (c .if1 .left)
+
+  known : Limits (s .args .difference) (s .args .samples) (s .args .rate)
+  known = limits _ _ _ good
 
   read : toZ w64 (ofZ w64 (s .args .difference)) ≡ s .args .difference
   read = back (s .fits .difference)
 
   read-f : toZ w64 f ≡ pos f
-  read-f = toZ-pos w64 (omega (arith, slow))
+  read-f = toZ-pos w64 (omega (arith, known .rate))
 
   small : natAbs (s .args .difference *ℤ pos f) < 2 ^ 61
-  small = product-small (s .args .difference) (s .args .rate) (count (c .before .before .before .before)) (rate-is (s .args .rate) (rate c) .1)
+  small = product-small _ _ _ known
 
   fits : SFits w64 (s .args .difference *ℤ pos f)
   fits = fits-size _ (omega (arith, small, abs-is (s .args .difference *ℤ pos f)))
@@ -50,56 +53,46 @@ module _ (c : tie.Else3) where
 is-count-requires : tie.Need-is-count-requires
 is-count-requires c κs = search needs
 
-returns : tie.Need-returns
-returns c = bad-count _ _ _ (sym (rw (back (c .before .before .fits .difference)) at (c .before .is-count .ensures)) ∙ not-true _ (c .if1 .taken))
-
 is-samples-requires : tie.Need-is-samples-requires
 is-samples-requires c κs = search needs
-
-returns-2 : tie.Need-returns-2
-returns-2 c = bad-samples _ _ _ (count (c .before .before)) (sym (c .before .is-samples .ensures) ∙ not-true _ (c .if2 .taken))
 
 is-rate-requires : tie.Need-is-rate-requires
 is-rate-requires c κs = search needs
 
-returns-3 : tie.Need-returns-3
-returns-3 c =
-    bad-rate _ _ _ (count (c .before .before .before .before)) (samples (c .before .before))
-    (sym (c .before .is-rate .ensures) ∙ not-true _ (c .if3 .taken))
+returns : tie.Need-returns
+unfolding speedByCount
+returns c = rw (sym (tested (c .before)) ∙ not-true _ (c .if1 .taken))
 
 mul-f : tie.Need-mul-f
-mul-f c = record { fits = omega (arith, slow c) }
+mul-f c = record { fits = omega (arith, known c .rate) }
 
 cast-f : tie.Need-cast-f
-cast-f c = record { sfits = omega (arith, slow c) }
+cast-f c = record { sfits = omega (arith, known c .rate) }
 
 mul-to-nearest : tie.Need-mul-to-nearest
 mul-to-nearest c = rw (read c, read-f c) (fits c)
 
 to-nearest-requires : tie.Need-to-nearest-requires
 to-nearest-requires c κs =
-    let n = samples-are (s c .args .samples) (samples (c .before .before)) in
-    let r = rate-is (s c .args .rate) (rate c) in
-    rw (read c, read-f c, back (fits c)) (small c, omega (arith, n, r), omega (arith, n, r))
+    let n = known c in
+    rw (read c, read-f c, back (fits c)) (small c, omega arith, omega arith)
 
-returns-4 : tie.Need-returns-4
-returns-4 c =
+returns-2 : tie.Need-returns-2
+unfolding speedByCount
+returns-2 c =
     let k = c .before in
-    ap Number (back-ok (c .to-nearest .ok) ∙ (rw (read k, read-f k, back (fits k)) at (c .to-nearest .ensures)))
-    ∙ good-speed _ _ _ (count (k .before .before .before .before)) (samples (k .before .before)) (rate k)
+    rw (good k) (ap Of (back-ok (c .to-nearest .ok) ∙ (rw (read k, read-f k, back (fits k)) at (c .to-nearest .ensures))))
 
 pub by-count-spec : {M : Type 1} → statement M
 by-count-spec =
     tie.close
     (tie.spec
     is-count-requires
-    returns
     is-samples-requires
-    returns-2
     is-rate-requires
-    returns-3
+    returns
     mul-f
     cast-f
     mul-to-nearest
     to-nearest-requires
-    returns-4)
+    returns-2)

@@ -1,24 +1,23 @@
-use borrow.Author.Needs.{needs}
 use native.Mathlib.Nat.{mod-lt}
 use native.Mathlib.Omega.{arith}
-use Rattle.reckon.proofs.WideningLaws.{ahead-up, ahead-round}
+use borrow.Author.Needs.{needs}
 use Rattle.reckon.proofs.widening.ahead.Statement.{statement}
 use Rattle.reckon.proofs.widening.ahead.Tie as tie
 
-rem-at : tie.Need-rem-at
-rem-at c = search needs
-
-returns-2 : tie.Need-returns-2
-returns-2 c = ahead-round (c .before .args .turn) (c .before .args .word) (c .before .args .reading) (omega arith) (c .if1 .left)
-
-returns : tie.Need-returns
-returns c = ahead-up (c .before .args .turn) (c .before .args .word) (c .before .args .reading) (omega arith) (c .if1 .taken) (c .before .pre .0)
+rem-result : tie.Need-rem-result
+rem-result c = search needs
 
 sub-result : tie.Need-sub-result
-sub-result c = omega (arith, mod-lt (c .before .args .word) {m = c .before .args .turn} (omega arith))
+sub-result c = omega (arith, mod-lt (c .args .word) {m = c .args .turn} (omega arith))
 
 add-result : tie.Need-add-result
 add-result c = search needs
 
+rem-result-2 : tie.Need-rem-result-2
+rem-result-2 c = search needs
+
+returns : tie.Need-returns
+returns c = search needs
+
 pub ahead-spec : {M : Type 1} → statement M
-ahead-spec = tie.close (tie.spec rem-at returns sub-result add-result returns-2)
+ahead-spec = tie.close (tie.spec rem-result sub-result add-result rem-result-2 returns)

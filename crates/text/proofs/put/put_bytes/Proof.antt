@@ -1,3 +1,4 @@
+-- Bytes from a place on: after i turns the first i of them stand there.
 use mathlib.Core.Path.{_≡_, refl, ap, _∙_}
 use Prim.Native.Nat.{_-_, _≤_}
 use native.Mathlib.Omega.{arith}

@@ -1,28 +1,29 @@
+-- The line of a position: behind the label with a - below zero, behind the plain label else.
 use mathlib.Core.Path.{_≡_, sym, ap, _∙_}
 use mathlib.Core.List.{[], _∷_, _++_}
 use Prim.Native.Nat.{ℕ}
 use native.Mathlib.Omega.{arith}
 use lib.ListN.{length}
 use Rattle.integers.proofs.Machine.{back}
-use Rattle.text.specs.Text.{MINUS, POSITION, decimal, numeral, lineOf}
+use Rattle.text.specs.Text.{MINUS, positionLabel, decimal, numeral, lineOf}
 use Rattle.text.proofs.TextLaws.{position-below, position-above}
 use borrow.Author.Needs.{needs}
 use Rattle.text.proofs.report.put_position.Statement.{statement}
 use Rattle.text.proofs.report.put_position.Tie as tie
 
 module _ (c : tie.After-size) where
-  line-below : lineOf POSITION (numeral (c .before .before .before .before .before .args .position)) ≡ lineOf (POSITION ++ (MINUS ∷ [])) (decimal (c .size .result))
+  line-below : lineOf positionLabel (numeral (c .before .before .before .before .before .args .position)) ≡ lineOf (positionLabel ++ (MINUS ∷ [])) (decimal (c .size .result))
   line-below =
       let s = c .before .before .before .before .before in
       let b = back (s .fits .position) in
-      position-below _ (rw b at (c .before .before .before .if1 .taken)) ∙ ap (λ (n : ℕ). lineOf (POSITION ++ (MINUS ∷ [])) (decimal n)) (sym (rw b at (c .size .ensures)))
+      position-below _ (rw b at (c .before .before .before .if1 .taken)) ∙ ap (λ (n : ℕ). lineOf (positionLabel ++ (MINUS ∷ [])) (decimal n)) (sym (rw b at (c .size .ensures)))
 
 module _ (c : tie.After-size2) where
-  line-above : lineOf POSITION (numeral (c .before .before .before .before .before .args .position)) ≡ lineOf POSITION (decimal (c .size2 .result))
+  line-above : lineOf positionLabel (numeral (c .before .before .before .before .before .args .position)) ≡ lineOf positionLabel (decimal (c .size2 .result))
   line-above =
       let s = c .before .before .before .before .before in
       let b = back (s .fits .position) in
-      position-above _ (rw b at (c .before .before .before .if1 .left)) ∙ ap (λ (n : ℕ). lineOf POSITION (decimal n)) (sym (rw b at (c .size2 .ensures)))
+      position-above _ (rw b at (c .before .before .before .if1 .left)) ∙ ap (λ (n : ℕ). lineOf positionLabel (decimal n)) (sym (rw b at (c .size2 .ensures)))
 
 slice-aggregate-put-line : tie.Need-slice-aggregate-put-line
 slice-aggregate-put-line c = search needs

@@ -1,3 +1,4 @@
+-- A report: the three lines fit the buffer one behind the other.
 use Prim.Native.Nat.{_<_, _≤_, _^_}
 use native.Mathlib.Nat.{zero-add}
 use mathlib.Core.Path.{_≡_, _∙_}
@@ -6,23 +7,23 @@ use lib.ListN.{length}
 use mir.Syntax.{w64}
 use mir.Val.{SFits}
 use Rattle.integers.proofs.Machine.{back}
-use Rattle.text.specs.Text.{SAMPLES, POSITION, DOUBLES, decimal, numeral, lineOf}
+use Rattle.text.specs.Text.{samplesLabel, positionLabel, doublesLabel, decimal, numeral, lineOf}
 use Rattle.text.proofs.TextLaws.{samples-room, position-room, doubles-room, puts-text}
 use borrow.Author.Needs.{needs}
 use Rattle.text.proofs.report.Report.write.Statement.{statement}
 use Rattle.text.proofs.report.Report.write.Tie as tie
 
 module _ (s : tie.Start) where
-  first : length (lineOf SAMPLES (decimal (s .args .self .samples))) ≤ 29
+  first : length (lineOf samplesLabel (decimal (s .args .self .samples))) ≤ 29
   first = let h : s .args .self .samples < 2 ^ 64 = search needs in samples-room _ h
 
   held : SFits w64 (s .args .self .position)
   held = search needs
 
-  second : length (lineOf POSITION (numeral (s .args .self .position))) ≤ 30
+  second : length (lineOf positionLabel (numeral (s .args .self .position))) ≤ 30
   second = position-room _ held
 
-  third : length (lineOf DOUBLES (decimal (s .args .self .doubles))) ≤ 14
+  third : length (lineOf doublesLabel (decimal (s .args .self .doubles))) ≤ 14
   third = let h : s .args .self .doubles < 2 ^ 16 = search needs in doubles-room _ h
 
 room : (c : tie.After-put-line-arg2) → length (c .before .before .args .out .now) ≡ 73

@@ -1,6 +1,6 @@
 use borrow.Author.Needs.{needs}
-use Rattle.host_answers.proofs.plain.of_refusal.Statement.{statement}
-use Rattle.host_answers.proofs.plain.of_refusal.Tie as tie
+use Rattle.host_answers.proofs.answer.of_refusal.Statement.{statement}
+use Rattle.host_answers.proofs.answer.of_refusal.Tie as tie
 
 number-requires : tie.Need-number-requires
 number-requires c κs = search needs

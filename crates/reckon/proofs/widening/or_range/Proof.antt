@@ -1,0 +1,37 @@
+use borrow.Author.Needs.{needs}
+use borrow.Author.Tests.{not-true, not-false}
+use mathlib.Core.Path.{_≡_, sym, _∙_, ap}
+use mathlib.Core.Bool.{true}
+use Prim.Native.Nat.{_-_, _^_, _<_}
+use native.Mathlib.Omega.{arith}
+use Rattle.integers.proofs.Machine.{back-ok}
+use Rattle.position.specs.Position.{isWord}
+use Rattle.reckon.specs.declared.Reckoned.the-variants.{Number}
+use Rattle.reckon.specs.Widening.{orRange}
+use Rattle.reckon.proofs.NumberLaws.{between}
+use Rattle.reckon.proofs.WideningLaws.{word-range}
+use Rattle.reckon.proofs.widening.or_range.Statement.{statement}
+use Rattle.reckon.proofs.widening.or_range.Tie as tie
+
+held : (c : tie.Else1) → isWord (c .before .before .args .word) ≡ true
+held c = sym (c .before .is-word .ensures) ∙ not-false _ (c .if1 .left)
+
+is-word-requires : tie.Need-is-word-requires
+is-word-requires c κs = search needs
+
+returns : tie.Need-returns
+unfolding orRange
+returns c = rw (word-range (c .before .before .args .word), sym (c .before .is-word .ensures) ∙ not-true _ (c .if1 .taken))
+
+at-word-requires : tie.Need-at-word-requires
+at-word-requires c κs =
+    let w = c .before .before .args .word in
+    let in-limits : (0 < w) × (w < 2 ^ 63) = omega (arith, between 1 (2 ^ 63 - 1) w (held c)) in
+    in-limits
+
+returns-2 : tie.Need-returns-2
+unfolding orRange
+returns-2 c = rw (word-range (c .before .before .before .args .word), held (c .before)) (ap Number (back-ok (c .at-word .ok) ∙ c .at-word .ensures))
+
+pub or-range-spec : {M : Type 1} → statement M
+or-range-spec = tie.close (tie.spec is-word-requires returns at-word-requires returns-2)
