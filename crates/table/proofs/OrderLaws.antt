@@ -20,6 +20,7 @@ use Rattle.reckon.specs.Widening.{widened}
 use Rattle.reckon.specs.declared.Reckoned.{Reckoned}
 use Rattle.reckon.specs.declared.Reckoned.the-variants.{Refused as Unreckoned}
 use Rattle.reckon.proofs.NearestLaws.{verdict}
+use Rattle.axis.specs.Limit.{mostAxes}
 use Rattle.axis.specs.Config.{goodConfig}
 use Rattle.axis.specs.Row.{axisOf}
 use Rattle.axis_sound.specs.Sound.{statusOf}
@@ -108,12 +109,12 @@ module _ {A : Type 0} (number : A → ℕ) (refuse : Refusal → A) (same : (e :
           go (there l q) = let w : number (say (rowAt t k)) ≡ n = rw q at e in ⊎-elim (λ z. omega arith) (λ m. omega arith) (late (rowAt t k))
 
 module _ {A : Type 0} {number : A → ℕ} {say : Row → A} {t : List ℕ} {k : ℕ} {a : A} (o : Ordered number say t k a) where
-  -- HEADLINE: so LENGTH is exactly for a slice that is not 4n words, n from 1 to 16.
-  pub length-line : (number a ≡ numberOf Length) ↔ ((n : ℕ) → 1 ≤ n → n ≤ 16 → length t ≢ n * 4)
+  -- HEADLINE: so LENGTH is exactly for a slice that is not 4n words, n from 1 to the limit.
+  pub length-line : (number a ≡ numberOf Length) ↔ ((n : ℕ) → 1 ≤ n → n ≤ mostAxes → length t ≢ n * 4)
   length-line = (λ e. length-wrong (length t) .0 (o .slice .0 e), λ h. o .slice .1 (length-wrong (length t) .1 h))
 
   -- HEADLINE: and AXIS, with such a slice, exactly for a number of n or more.
-  pub axis-line : (n : ℕ) → 1 ≤ n → n ≤ 16 → length t ≡ n * 4 → (number a ≡ numberOf Axis) ↔ (n ≤ k)
+  pub axis-line : (n : ℕ) → 1 ≤ n → n ≤ mostAxes → length t ≡ n * 4 → (number a ≡ numberOf Axis) ↔ (n ≤ k)
   axis-line n some most e =
       let held : axesIn (length t) ≡ n = rw e (axes-of n most) in
       (λ h. omega (arith, o .named .0 h .1), λ h. o .named .1 ((λ z. let far : ⊥ = omega arith in far), omega arith))

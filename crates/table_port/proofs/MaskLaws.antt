@@ -11,7 +11,7 @@ use lib.Pow.{pow-pos, pow-add, pow-mono, high, shl-exact}
 use Rattle.fields.specs.Field.{flagOf}
 use Rattle.table_port.specs.Port.{putBit, maskOf}
 
--- A shift and an or put a bit above what a mask holds.
+-- A shift and an or put a bit above what a mask of 16 bits holds.
 pub bit-put : (k m : ℕ) → k < 16 → m < 2 ^ k → bitOr m (1 * 2 ^ k % 2 ^ 16) ≡ m + 2 ^ k
 bit-put k m h b = rw (shl-exact 1 k 16 (lit< tt) (omega arith)) (or-shifted-r 1 k m b ∙ omega arith)
 

@@ -4,6 +4,7 @@ use mathlib.Core.Path.{_≡_, refl, sym, ap, _∙_}
 use mathlib.Core.List.{List}
 use lib.ListN.{length}
 use borrow.Author.Needs.{needs}
+use Rattle.axis.specs.Limit.{mostAxes}
 use Rattle.table_port.specs.Port.{nibble, sampledTo, maskOf, masksTo}
 use Rattle.table_port.specs.declared.Masks.{Masks}
 use Rattle.table_rows.proofs.TableLaws.{axes-fit, axes-most}
@@ -41,7 +42,7 @@ unfolding sampledTo masksTo maskOf
 loop-holds c = record { within = search needs; table = refl; masks = refl }
 
 module _ (c : tie.In-loop Inv-loop μ-loop) where
-  small : c .before .loop .k < 16
+  small : c .before .loop .k < mostAxes
   small = omega (arith, axes-most (length (c .before .before .before .before .before .args .table .now)))
 
   inside : c .before .loop .k * 4 + 4 ≤ length (c .before .loop .table)
