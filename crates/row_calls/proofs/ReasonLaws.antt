@@ -1,8 +1,7 @@
 -- The laws of BROKEN, EMPTY and KIND, each answered exactly where the row is so, and of what is answered past them.
-use Prim.Native.Nat.{ℕ, _<_, _≤_}
-use native.Mathlib.Omega.{arith}
+use Prim.Native.Nat.{ℕ}
 use mathlib.Core.Path.{_≡_, refl, sym, ap, _∙_}
-use mathlib.Core.Logic.{_↔_, _⊎_, inl, inr}
+use mathlib.Core.Logic.{_↔_, inl, inr}
 use mathlib.Core.Bool.{false, cond}
 use lib.Dec.{eqb, lit<, lit≤}
 use borrow.Author.Tests.{eqb-false}
@@ -10,6 +9,8 @@ use lib.IntN.{ℤ}
 use Rattle.integers.proofs.Balance.{Tested, yes, no, test}
 use Rattle.position.specs.Position.{inRange}
 use Rattle.refusal.specs.Refusal.{numberOf}
+use Rattle.refusal.specs.Order.{checked, After}
+use Rattle.refusal.proofs.RefusalLaws.{after-not}
 use Rattle.refusal.specs.declared.Refusal.{Refusal}
 use Rattle.refusal.specs.declared.Refusal.the-variants.{Broken as BROKEN, Empty as EMPTY, Kind as KIND, Value as VALUE}
 use Rattle.axis.specs.Row.{axisOf, rowOf, freshAt}
@@ -34,23 +35,19 @@ other m n e h = absurd (eqb-false m n e h)
 
 -- Done, or a reason after KIND.
 unfoldable pub Past : ℕ → Type 0
-Past n = (n ≡ 0) ⊎ (numberOf KIND < n)
+Past n = After checked KIND n
 
 -- What a call may answer on a sampled row or a counter: neither BROKEN nor EMPTY, and KIND exactly where the row is of the wrong kind.
 record Later (n : ℕ) (wrong : Type 0) : Type 0 where
   full : (n ≡ numberOf BROKEN → ⊥) × (n ≡ numberOf EMPTY → ⊥)
   kind : (n ≡ numberOf KIND) ↔ wrong
 
-past-not : {n : ℕ} → Past n → (m : ℕ) → 0 < m → m ≤ numberOf KIND → n ≡ m → ⊥
-unfolding Past
-past-not (inl z) m l h e = omega arith
-past-not (inr g) m l h e = omega arith
-
 -- The row is of the right kind.
 right : {n : ℕ} {wrong : Type 0} → Past n → (wrong → ⊥) → Later n wrong
+unfolding Past
 right p never = record {
-  full = (past-not p (numberOf BROKEN) (lit< tt) (lit≤ tt), past-not p (numberOf EMPTY) (lit< tt) (lit≤ tt));
-  kind = (λ e. absurd (past-not p (numberOf KIND) (lit< tt) (lit≤ tt) e), λ w. absurd (never w));
+  full = (after-not checked KIND BROKEN (lit≤ tt) p, after-not checked KIND EMPTY (lit≤ tt) p);
+  kind = (λ e. absurd (after-not checked KIND KIND (lit≤ tt) p e), λ w. absurd (never w));
 }
 
 -- The row is of the wrong one.
@@ -114,7 +111,7 @@ module _ {A : Type 0} (number : A → ℕ) (refuse : Refusal → A) (same : (e :
 
 -- ---- what each call may answer past KIND
 
-place-past : (p : ℤ) (r : Row) → Past (doneNumber (doneOf (placeRow p r)))
+pub place-past : (p : ℤ) (r : Row) → Past (doneNumber (doneOf (placeRow p r)))
 unfolding Past placeRow
 place-past p r = go (test (inRange p))
   where

@@ -33,7 +33,7 @@ use Rattle.row_counter.specs.Reading.{readAxis, readingOf, readingRow, s
 
 -- ---- reasons
 
-reading-past : (w : ℕ) (W : ℤ) (x : ℕ) → Past (refusalIn (widened w W x))
+pub reading-past : (w : ℕ) (W : ℤ) (x : ℕ) → Past (refusalIn (widened w W x))
 unfolding Past
 reading-past w W x = go (verdict w W x)
   where

@@ -174,7 +174,7 @@ saved-restore s b r q all e room = go (readAs s) refl
 
 -- ---- reasons
 
-save-past : (room : ℕ) (s : Saved) → Past (writtenNumber (savedAs room s))
+pub save-past : (room : ℕ) (s : Saved) → Past (writtenNumber (savedAs room s))
 unfolding Past savedAs
 save-past room s = go (test (within s)) (test (leb (length (recordOf s)) room))
   where
