@@ -15,7 +15,7 @@ use Rattle.table_port.specs.declared.Sampled.{Sampled}
 use Rattle.table_port.specs.declared.Sampled.the-variants.{Seen, Refused as Unsampled}
 use Rattle.table_port.proofs.PortLaws.{sample-row, sample-bits, sample-refused}
 use Rattle.runs.specs.Told.{Told, marks, marksOf}
-use Rattle.runs.specs.Op.{Look, Op, view, speed, save, changes, reading, looks, lookRow, ruleOf, answerOf, rowAfter}
+use Rattle.runs.specs.Op.{Look, Op, view, speed, save, changes, restore, reading, looks, lookRow, ruleOf, answerOf, rowAfter}
 use Rattle.runs.specs.Event.{Event, asked, rowNext, toldOf}
 use Rattle.runs.specs.Run.{Call, port, names, tableBy, tableNext, tableRun, bitsOf, answerIn, heardOf, heard, rowsOf, rows}
 use Rattle.runs.proofs.CallLaws.{next-length, other-row, named-row, named-answer}
@@ -27,6 +27,7 @@ use Rattle.promises.proofs.SaveBytes.{save-alike}
 seen-row : (r : Row) (o : Op) → rowAfter r (seen o) ≡ rowAfter r o
 unfolding rowAfter ruleOf seen
 seen-row r (changes c) = refl
+seen-row r (restore bytes) = refl
 seen-row r (reading x) = refl
 seen-row r (looks l) = refl
 
@@ -39,6 +40,7 @@ seen-look r (save buffer) = save-alike r (replicate (length buffer) 0) buffer (l
 seen-answer : (r : Row) (o : Op) → answerOf (seen o) r ≡ answerOf o r
 unfolding answerOf seen
 seen-answer r (changes c) = refl
+seen-answer r (restore bytes) = refl
 seen-answer r (reading x) = refl
 seen-answer r (looks l) = seen-look r l
 
