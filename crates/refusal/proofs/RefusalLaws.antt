@@ -1,6 +1,7 @@
 -- The laws of the reasons: no number is 0, and number and found value together tell them apart.
 use mathlib.Core.Path.{_≡_, refl, sym, ap, _∙_}
 use mathlib.Core.Logic.{inl, inr}
+use mathlib.Core.Bool.{Bool, true, false, cond}
 use mathlib.Core.List.{List, [], _∷_}
 use Prim.Native.Nat.{ℕ, _≤_}
 use native.Mathlib.Omega.{arith}
@@ -53,3 +54,9 @@ module _ (order : List Refusal) (e f : Refusal) {n : ℕ} (sooner : placeIn orde
   pub after-sooner : After order e n → After order f n
   after-sooner (inl z) = inl z
   after-sooner (inr l) = inr (omega arith)
+
+-- A choice between two answers that are done or come after a reason is one.
+pub after-either : (order : List Refusal) {A : Type 0} (number : A → ℕ) (e : Refusal) (b : Bool) (p q : A) →
+    After order e (number p) → After order e (number q) → After order e (number (cond b p q))
+after-either order number e true p q x y = x
+after-either order number e false p q x y = y

@@ -6,11 +6,10 @@ use mathlib.Core.Bool.{false, cond}
 use lib.Dec.{eqb, lit<, lit≤}
 use borrow.Author.Tests.{eqb-false}
 use lib.IntN.{ℤ}
-use Rattle.integers.proofs.Balance.{Tested, yes, no, test}
 use Rattle.position.specs.Position.{inRange}
 use Rattle.refusal.specs.Refusal.{numberOf}
 use Rattle.refusal.specs.Order.{checked, After}
-use Rattle.refusal.proofs.RefusalLaws.{after-not}
+use Rattle.refusal.proofs.RefusalLaws.{after-not, after-either}
 use Rattle.refusal.specs.declared.Refusal.{Refusal}
 use Rattle.refusal.specs.declared.Refusal.the-variants.{Broken as BROKEN, Empty as EMPTY, Kind as KIND, Value as VALUE}
 use Rattle.axis.specs.Row.{axisOf, rowOf, freshAt}
@@ -20,11 +19,10 @@ use Rattle.axis.specs.declared.row.Row.{Row}
 use Rattle.axis_sound.specs.declared.Status.{Status}
 use Rattle.axis_sound.specs.declared.Status.the-variants.{Empty, Sampled, Counter, Broken}
 use Rattle.axis_sound.proofs.SoundLaws.{counter-gives}
-use Rattle.row_calls.specs.Answer.{doneOf, doneNumber, viewOf, viewNumber}
+use Rattle.row_calls.specs.Answer.{changedNumber, viewOf, viewNumber}
 use Rattle.row_calls.specs.Change.{presetAxis, armAxis, acknowledgeAxis}
 use Rattle.row_calls.specs.Calls.{byStatus, placeRow, presetRow, armRow, acknowledgeRow, viewRow}
 use Rattle.row_calls.specs.Reasons.{Told}
-use Rattle.row_calls.specs.declared.answer.Changed.{Changed}
 use Rattle.row_calls.specs.declared.answer.Changed.the-variants.{To, Kept}
 use Rattle.row_calls.specs.declared.answer.Viewed.the-variants.{Shows, Refused as Unseen}
 use Rattle.row_calls.proofs.StatusLaws.{Live, either-kind}
@@ -111,18 +109,11 @@ module _ {A : Type 0} (number : A → ℕ) (refuse : Refusal → A) (same : (e :
 
 -- ---- what each call may answer past KIND
 
-pub place-past : (p : ℤ) (r : Row) → Past (doneNumber (doneOf (placeRow p r)))
+pub place-past : (p : ℤ) (r : Row) → Past (changedNumber (placeRow p r))
 unfolding Past placeRow
-place-past p r = go (test (inRange p))
-  where
-    go : Tested (inRange p) → Past (doneNumber (doneOf (placeRow p r)))
-    go (yes i) = rw i (inl refl)
-    go (no i) = rw i (inr (lit< tt))
+place-past p r = after-either checked changedNumber KIND (inRange p) _ _ (inl refl) (inr (lit< tt))
 
 -- ---- each call: BROKEN exactly on a broken row, EMPTY exactly on an empty one, and KIND exactly on one of the kind that the call does not take
-
-abbrev changedNumber : Changed → ℕ
-changedNumber c = doneNumber (doneOf c)
 
 -- HEADLINE: preset takes both kinds.
 pub preset-reasons : (p : ℤ) (r : Row) → Told (changedNumber (presetRow p r)) (statusOf r) ⊥

@@ -13,7 +13,9 @@ use Rattle.integers.proofs.Balance.{Tested, yes, no, test}
 use Rattle.position.specs.Position.{inRange, wordOf}
 use Rattle.position.proofs.PositionLaws.{word-low, word-high, position-in-range, position-word, word-position}
 use Rattle.refusal.specs.declared.Refusal.{Refusal}
-use Rattle.refusal.specs.declared.Refusal.the-variants.{Room as ROOM}
+use Rattle.refusal.specs.declared.Refusal.the-variants.{Kind as KIND, Room as ROOM}
+use Rattle.refusal.specs.Order.{checked}
+use Rattle.refusal.proofs.RefusalLaws.{after-either}
 use Rattle.axis.specs.Kind.{sampledKind}
 use Rattle.axis.specs.Config.{sampledConfig, counterConfig, goodConfig}
 use Rattle.axis.specs.Row.{axisOf, rowOf, fresh, freshAt, Words}
@@ -176,12 +178,10 @@ saved-restore s b r q all e room = go (readAs s) refl
 
 pub save-past : (room : ℕ) (s : Saved) → Past (writtenNumber (savedAs room s))
 unfolding Past savedAs
-save-past room s = go (test (within s)) (test (leb (length (recordOf s)) room))
-  where
-    go : Tested (within s) → Tested (leb (length (recordOf s)) room) → Past (writtenNumber (savedAs room s))
-    go (no g) t = rw g (inr (lit< tt))
-    go (yes g) (yes h) = rw (g, h) (inl refl)
-    go (yes g) (no h) = rw (g, h) (inr (lit< tt))
+save-past room s =
+    let size = length (recordOf s) in
+    let fitted = after-either checked writtenNumber KIND (leb size room) (Bytes size) (Unwritten ROOM) (inl refl) (inr (lit< tt)) in
+    after-either checked writtenNumber KIND (within s) _ _ fitted (inr (lit< tt))
 
 -- HEADLINE: save takes both kinds.
 pub save-reasons : (room : ℕ) (r : Row) → Told (writtenNumber (saveRow room r)) (statusOf r) ⊥

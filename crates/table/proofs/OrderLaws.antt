@@ -13,7 +13,7 @@ use borrow.Author.Tests.{eqb-true, eqb-false, ltb-true, ltb-false}
 use Rattle.position.specs.Position.{positionOf}
 use Rattle.refusal.specs.Refusal.{numberOf}
 use Rattle.refusal.specs.Order.{checked, placeIn, After}
-use Rattle.refusal.proofs.RefusalLaws.{after-not, after-sooner}
+use Rattle.refusal.proofs.RefusalLaws.{after-not, after-sooner, after-either}
 use Rattle.refusal.specs.declared.Refusal.{Refusal}
 use Rattle.refusal.specs.declared.Refusal.the-variants.{Length, Axis, Broken as BROKEN, Empty as EMPTY, Kind as KIND, NoPeriod}
 use Rattle.reckon.specs.Reckoned.{refusalIn}
@@ -32,7 +32,7 @@ use Rattle.record.specs.Record.{readAs}
 use Rattle.record.specs.declared.answer.Read.{Read}
 use Rattle.record.specs.declared.answer.Written.the-variants.{Refused as Unwritten}
 use Rattle.record.proofs.OrderLaws.{exactly}
-use Rattle.row_calls.specs.Answer.{doneOf, doneNumber, viewNumber}
+use Rattle.row_calls.specs.Answer.{doneOf, doneNumber, changedNumber, viewNumber}
 use Rattle.row_calls.specs.Calls.{byStatus, setupRow, eraseRow, presetRow, armRow, acknowledgeRow, viewRow}
 use Rattle.row_saving.specs.Saving.{savedOf, saveRow, restoreRow, restoredBy}
 use Rattle.row_speed.specs.Speed.{signOf, spanOf, speedOf, speedRow}
@@ -47,7 +47,7 @@ use Rattle.row_counter.proofs.ReadingLaws.{reading-past}
 use Rattle.table_rows.specs.Table.{axesIn, rowAt}
 use Rattle.table_rows.specs.Located.{located, onFound}
 use Rattle.table.specs.Call.{Makes, viewedIn, readIn, speedIn, saveIn}
-use Rattle.table.specs.Order.{changedNumber, Ordered}
+use Rattle.table.specs.Order.{Ordered}
 use Rattle.table_rows.specs.declared.Located.the-variants.{At, Refused}
 use Rattle.table_rows.proofs.TableLaws.{axes-of, length-wrong}
 use Rattle.table_rows.proofs.LocatedLaws.{found-none, found-past, found-at}
@@ -129,11 +129,10 @@ module _ {A : Type 0} {number : A → ℕ} {say : Row → A} {t : List ℕ} {k :
 
 -- ---- each call's own reasons
 
-module _ {A : Type 0} (number : A → ℕ) (e : Refusal) where
-  -- A choice between two answers with later reasons is one.
-  either : (b : Bool) (p q : A) → After checked e (number p) → After checked e (number q) → After checked e (number (cond b p q))
-  either true p q x y = x
-  either false p q x y = y
+-- A choice between two answers with later reasons is one.
+abbrev either : {A : Type 0} (number : A → ℕ) (e : Refusal) (b : Bool) (p q : A) →
+    After checked e (number p) → After checked e (number q) → After checked e (number (cond b p q))
+either = after-either checked
 
 -- A call that takes sound rows that are not empty: BROKEN and EMPTY are later than AXIS, and so is what follows.
 by-status : {A : Type 0} (number : A → ℕ) (refuse : Refusal → A) (same : (e : Refusal) → number (refuse e) ≡ numberOf e) (sampled counter : A) →

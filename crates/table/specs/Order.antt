@@ -7,13 +7,7 @@ use lib.ListN.{length}
 use Rattle.refusal.specs.Refusal.{numberOf}
 use Rattle.refusal.specs.declared.Refusal.the-variants.{Length, Axis}
 use Rattle.axis.specs.declared.row.Row.{Row}
-use Rattle.row_calls.specs.Answer.{doneOf, doneNumber}
-use Rattle.row_calls.specs.declared.answer.Changed.{Changed}
 use Rattle.table_rows.specs.Table.{axesIn, rowAt}
-
--- The number that is answered for what a call makes of the row, 0 where that is another row.
-abbrev pub changedNumber : Changed → ℕ
-changedNumber c = doneNumber (doneOf c)
 
 -- LENGTH exactly where the slice holds no axis, else AXIS exactly where it holds none of that number, else what the row's own rule says.
 pub record Ordered {A : Type 0} (number : A → ℕ) (say : Row → A) (t : List ℕ) (k : ℕ) (a : A) : Type 0 where
