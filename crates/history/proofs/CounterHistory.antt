@@ -30,7 +30,7 @@ use Rattle.row_calls.specs.declared.apply.Change.the-variants.{Setup, Preset, A
 use Rattle.runs.specs.Op.{Look, changes, restore, reading, looks, ruleOf, rowAfter}
 use Rattle.runs.specs.Event.{Event, bits, asked, rowNext, rowSince}
 use Rattle.history.specs.Phase.{phaseOf, afterEvent, afterChange, afterCall}
-use Rattle.history.specs.Counter.{Aside, Reads, none, read, between}
+use Rattle.history.specs.Counter.{Aside, CounterReads, none, read, between}
 use Rattle.history.proofs.EventLaws.{reading-told, tells}
 use Rattle.history.proofs.RowHistory.{phase-lawful, status-history, counter-history}
 
@@ -96,7 +96,7 @@ module _ (r : Row) (counter : statusOf r ≡ Counter) where
   abbrev start : ℤ
   start = positionOf (axisOf r .word)
 
-  only-readings : {h : List Event} {ps : List ℤ} → Reads width h ps → Gentle width start ps → rowSince r h ≡ rowRead width r ps
+  only-readings : {h : List Event} {ps : List ℤ} → CounterReads width h ps → Gentle width start ps → rowSince r h ≡ rowRead width r ps
   unfolding rowSince rowRead rowNext rowAfter ruleOf
   only-readings none g = refl
   only-readings (read p d) (moved q ps ok near g) = ap (λ (s : Row). leftBy s (readRow (shown width p) s)) (only-readings d g)
@@ -105,5 +105,5 @@ module _ (r : Row) (counter : statusOf r ≡ Counter) where
       q _ (ap statusOf same ∙ counter-follows r counter g .status) ∙ same
 
   -- HEADLINE: a counter on a shaft that moves less than half a turn between readings is where the shaft is, whatever else happens to its row between.
-  pub counter-shaft : {h : List Event} {ps : List ℤ} → Reads width h ps → Gentle width start ps → positionOf (rowSince r h .w0) ≡ newest start ps
+  pub counter-shaft : {h : List Event} {ps : List ℤ} → CounterReads width h ps → Gentle width start ps → positionOf (rowSince r h .w0) ≡ newest start ps
   counter-shaft d g = ap (λ (s : Row). positionOf (s .w0)) (only-readings d g) ∙ counter-position r counter g

@@ -7,13 +7,15 @@ use Prim.Native.Nat.{ℕ, _≤_}
 use native.Mathlib.Omega.{arith}
 use lib.ListN.{getD}
 use Rattle.refusal.specs.declared.Refusal.{Refusal}
-use Rattle.refusal.specs.declared.Refusal.the-variants.{Length, Axis, Broken, Empty, Kind, Value, Half, Range, NoPeriod, Room, Layout, Record}
+use Rattle.refusal.specs.declared.Refusal.the-variants.{Length, Axis, Broken, Empty, Kind, Value}
+use Rattle.refusal.specs.declared.Refusal.the-variants.{Half, Range, NoPeriod, Room, Layout, Record}
 use Rattle.refusal.specs.Refusal.{numberOf, foundIn}
 use Rattle.refusal.specs.Order.{checked, placeIn, After}
 
 -- The reason with a number and a found value.
 reason : ℕ → ℕ → Refusal
-reason n f = getD (Length ∷ Length ∷ Axis ∷ Broken ∷ Empty ∷ Kind ∷ Value ∷ Half ∷ Range ∷ NoPeriod ∷ Room ∷ Layout f ∷ Record ∷ []) n Length
+reason n f =
+    getD (Length ∷ Length ∷ Axis ∷ Broken ∷ Empty ∷ Kind ∷ Value ∷ Half ∷ Range ∷ NoPeriod ∷ Room ∷ Layout f ∷ Record ∷ []) n Length
 
 -- A reason is the one with its number and its found value, and the one at its place in the order.
 again : (r : Refusal) → (reason (numberOf r) (foundIn r) ≡ r) × (numberOf (getD checked (placeIn checked (numberOf r)) Length) ≡ numberOf r)

@@ -7,7 +7,8 @@ use mathlib.Core.List.{List, [], _∷_}
 use lib.Dec.{eqb}
 use Rattle.refusal.specs.Refusal.{numberOf}
 use Rattle.refusal.specs.declared.Refusal.{Refusal}
-use Rattle.refusal.specs.declared.Refusal.the-variants.{Length, Axis, Broken, Empty, Kind, Value, Half, Range, NoPeriod, Room, Layout, Record}
+use Rattle.refusal.specs.declared.Refusal.the-variants.{Length, Axis, Broken, Empty, Kind, Value}
+use Rattle.refusal.specs.declared.Refusal.the-variants.{Half, Range, NoPeriod, Room, Layout, Record}
 
 -- The reasons in the order in which a call checks those that are its own; LAYOUT stands for every number found.
 abbrev pub checked : List Refusal

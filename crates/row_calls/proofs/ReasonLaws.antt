@@ -22,7 +22,7 @@ use Rattle.axis_sound.proofs.SoundLaws.{counter-gives}
 use Rattle.row_calls.specs.Answer.{changedNumber, viewOf, viewNumber}
 use Rattle.row_calls.specs.Change.{presetAxis, armAxis, acknowledgeAxis}
 use Rattle.row_calls.specs.Calls.{byStatus, placeRow, presetRow, armRow, acknowledgeRow, viewRow}
-use Rattle.row_calls.specs.Reasons.{Told}
+use Rattle.row_calls.specs.Reasons.{StatusReasons}
 use Rattle.row_calls.specs.declared.answer.Changed.the-variants.{To, Kept}
 use Rattle.row_calls.specs.declared.answer.Viewed.the-variants.{Shows, Refused as Unseen}
 use Rattle.row_calls.proofs.StatusLaws.{Live, either-kind}
@@ -64,25 +64,25 @@ apart s t e h = eqb-false (rank s) (rank t) e (ap rank h)
 
 module _ {A : Type 0} (number : A → ℕ) (refuse : Refusal → A) (same : (e : Refusal) → number (refuse e) ≡ numberOf e) where
   -- By the row's status: BROKEN, EMPTY, and past these what the call answers on the two kinds.
-  told : (wrong : Status → Type 0) → (wrong Broken → ⊥) → (wrong Empty → ⊥) → (sampled counter : A) → Later (number sampled) (wrong Sampled) →
-      Later (number counter) (wrong Counter) → (s : Status) → Told (number (byStatus refuse sampled counter s)) s (wrong s)
+  by-reasons : (wrong : Status → Type 0) → (wrong Broken → ⊥) → (wrong Empty → ⊥) → (sampled counter : A) → Later (number sampled) (wrong Sampled) →
+      Later (number counter) (wrong Counter) → (s : Status) → StatusReasons (number (byStatus refuse sampled counter s)) s (wrong s)
   unfolding rank
-  told wrong b e sampled counter onS onC Broken = record {
+  by-reasons wrong b e sampled counter onS onC Broken = record {
     broken = (λ _. refl, λ _. same BROKEN);
     empty = (λ h. other (numberOf BROKEN) (numberOf EMPTY) refl (sym (same BROKEN) ∙ h), λ h. absurd (apart Broken Empty refl h));
     kind = (λ h. other (numberOf BROKEN) (numberOf KIND) refl (sym (same BROKEN) ∙ h), λ w. absurd (b w));
   }
-  told wrong b e sampled counter onS onC Empty = record {
+  by-reasons wrong b e sampled counter onS onC Empty = record {
     broken = (λ h. other (numberOf EMPTY) (numberOf BROKEN) refl (sym (same EMPTY) ∙ h), λ h. absurd (apart Empty Broken refl h));
     empty = (λ _. refl, λ _. same EMPTY);
     kind = (λ h. other (numberOf EMPTY) (numberOf KIND) refl (sym (same EMPTY) ∙ h), λ w. absurd (e w));
   }
-  told wrong b e sampled counter onS onC Sampled = record {
+  by-reasons wrong b e sampled counter onS onC Sampled = record {
     broken = (λ h. absurd (onS .full .0 h), λ h. absurd (apart Sampled Broken refl h));
     empty = (λ h. absurd (onS .full .1 h), λ h. absurd (apart Sampled Empty refl h));
     kind = onS .kind;
   }
-  told wrong b e sampled counter onS onC Counter = record {
+  by-reasons wrong b e sampled counter onS onC Counter = record {
     broken = (λ h. absurd (onC .full .0 h), λ h. absurd (apart Counter Broken refl h));
     empty = (λ h. absurd (onC .full .1 h), λ h. absurd (apart Counter Empty refl h));
     kind = onC .kind;
@@ -90,21 +90,21 @@ module _ {A : Type 0} (number : A → ℕ) (refuse : Refusal → A) (same : (e :
 
   -- A call on both kinds.
   pub both-kinds : (sampled counter : A) → Past (number sampled) → Past (number counter) → (s : Status) →
-      Told (number (byStatus refuse sampled counter s)) s ⊥
-  both-kinds sampled counter onS onC = told (λ _. ⊥) (λ w. w) (λ w. w) sampled counter (right onS (λ w. w)) (right onC (λ w. w))
+      StatusReasons (number (byStatus refuse sampled counter s)) s ⊥
+  both-kinds sampled counter onS onC = by-reasons (λ _. ⊥) (λ w. w) (λ w. w) sampled counter (right onS (λ w. w)) (right onC (λ w. w))
 
   -- A call on sampled rows only.
-  pub sampled-only : (sampled : A) → Past (number sampled) → (s : Status) → Told (number (byStatus refuse sampled (refuse KIND) s)) s (s ≡ Counter)
+  pub sampled-only : (sampled : A) → Past (number sampled) → (s : Status) → StatusReasons (number (byStatus refuse sampled (refuse KIND) s)) s (s ≡ Counter)
   unfolding rank
   sampled-only sampled onS =
-      told (λ s. s ≡ Counter) (apart Broken Counter refl) (apart Empty Counter refl) sampled (refuse KIND)
+      by-reasons (λ s. s ≡ Counter) (apart Broken Counter refl) (apart Empty Counter refl) sampled (refuse KIND)
       (right onS (apart Sampled Counter refl)) (rw (same KIND) (wrongly refl))
 
   -- A call on counters only.
-  pub counters-only : (counter : A) → Past (number counter) → (s : Status) → Told (number (byStatus refuse (refuse KIND) counter s)) s (s ≡ Sampled)
+  pub counters-only : (counter : A) → Past (number counter) → (s : Status) → StatusReasons (number (byStatus refuse (refuse KIND) counter s)) s (s ≡ Sampled)
   unfolding rank
   counters-only counter onC =
-      told (λ s. s ≡ Sampled) (apart Broken Sampled refl) (apart Empty Sampled refl) (refuse KIND) counter
+      by-reasons (λ s. s ≡ Sampled) (apart Broken Sampled refl) (apart Empty Sampled refl) (refuse KIND) counter
       (rw (same KIND) (wrongly refl)) (right onC (apart Counter Sampled refl))
 
 -- ---- what each call may answer past KIND
@@ -116,22 +116,22 @@ place-past p r = after-either checked changedNumber KIND (inRange p) _ _ (inl re
 -- ---- each call: BROKEN exactly on a broken row, EMPTY exactly on an empty one, and KIND exactly on one of the kind that the call does not take
 
 -- HEADLINE: preset takes both kinds.
-pub preset-reasons : (p : ℤ) (r : Row) → Told (changedNumber (presetRow p r)) (statusOf r) ⊥
+pub preset-reasons : (p : ℤ) (r : Row) → StatusReasons (changedNumber (presetRow p r)) (statusOf r) ⊥
 unfolding presetRow
 preset-reasons p r = both-kinds changedNumber Kept (λ e. refl) (placeRow p r) (placeRow p r) (place-past p r) (place-past p r) (statusOf r)
 
 -- HEADLINE: arm takes sampled rows.
-pub arm-reasons : (r : Row) → Told (changedNumber (armRow r)) (statusOf r) (statusOf r ≡ Counter)
+pub arm-reasons : (r : Row) → StatusReasons (changedNumber (armRow r)) (statusOf r) (statusOf r ≡ Counter)
 unfolding armRow Past
 arm-reasons r = sampled-only changedNumber Kept (λ e. refl) (To (rowOf (armAxis (axisOf r)))) (inl refl) (statusOf r)
 
 -- HEADLINE: acknowledge takes sampled rows.
-pub acknowledge-reasons : (r : Row) → Told (changedNumber (acknowledgeRow r)) (statusOf r) (statusOf r ≡ Counter)
+pub acknowledge-reasons : (r : Row) → StatusReasons (changedNumber (acknowledgeRow r)) (statusOf r) (statusOf r ≡ Counter)
 unfolding acknowledgeRow Past
 acknowledge-reasons r = sampled-only changedNumber Kept (λ e. refl) (To (rowOf (acknowledgeAxis (axisOf r)))) (inl refl) (statusOf r)
 
 -- HEADLINE: view takes both kinds.
-pub view-reasons : (r : Row) → Told (viewNumber (viewRow r)) (statusOf r) ⊥
+pub view-reasons : (r : Row) → StatusReasons (viewNumber (viewRow r)) (statusOf r) ⊥
 unfolding viewRow Past
 view-reasons r = let v = Shows (viewOf (axisOf r)) in both-kinds viewNumber Unseen (λ e. refl) v v (inl refl) (inl refl) (statusOf r)
 

@@ -35,7 +35,7 @@ use Rattle.record.specs.declared.answer.Read.the-variants.{Accepted, Refused as
 use Rattle.record.specs.declared.answer.Written.the-variants.{Bytes, Refused as Unwritten}
 use Rattle.record.proofs.RecordLaws.{read-back, one-encoding, accepted-within, saved-front}
 use Rattle.row_calls.specs.Change.{changed, presetAxis, Holds}
-use Rattle.row_calls.specs.Reasons.{Told}
+use Rattle.row_calls.specs.Reasons.{StatusReasons}
 use Rattle.row_calls.specs.Calls.{andThen, placeRow, presetRow, setupRow}
 use Rattle.row_saving.specs.Saving.{savedOf, saveRow, savedIn, restoredBy, restoreRow}
 use Rattle.row_calls.specs.declared.answer.Changed.the-variants.{To, Kept}
@@ -184,7 +184,7 @@ save-past room s =
     after-either checked writtenNumber KIND (within s) _ _ fitted (inr (lit< tt))
 
 -- HEADLINE: save takes both kinds.
-pub save-reasons : (room : ℕ) (r : Row) → Told (writtenNumber (saveRow room r)) (statusOf r) ⊥
+pub save-reasons : (room : ℕ) (r : Row) → StatusReasons (writtenNumber (saveRow room r)) (statusOf r) ⊥
 unfolding saveRow
 save-reasons room r =
     let s = savedOf (axisOf r) in

@@ -22,7 +22,7 @@ use Rattle.table_rows.specs.Table.{axesIn, rowAt, setRow}
 use Rattle.table_rows.specs.Located.{located, onFound}
 use Rattle.table_rows.specs.declared.Located.{Located}
 use Rattle.table_rows.specs.declared.Located.the-variants.{At, Refused}
-use Rattle.table_rows.proofs.TableLaws.{axes-fit, axes-only, length-setRow, row-same, row-other, table-ext}
+use Rattle.table_rows.proofs.RowsLaws.{axes-fit, axes-only, length-setRow, row-same, row-other, table-ext}
 use Rattle.table_rows.proofs.LocatedLaws.{found-at, found}
 use Rattle.table_port.proofs.PortLaws.{sample-length}
 use Rattle.table.specs.Call.{ruled, tableAfter}

@@ -1,4 +1,5 @@
--- A call of a run is what the contract of that call promises: port: `Samples`, table: `Makes`, `Reads`, `Saves`, `viewedIn`, `speedIn`.
+-- A call of a run is what the contract of that call promises: `Samples` of table_port; `Makes`, `ReadingMakes`, `SaveMakes`,
+-- `viewedIn` and `speedIn` of table.
 use Prim.Native.Nat.{ℕ}
 use native.Mathlib.Omega.{arith}
 use mathlib.Core.Path.{_≡_, refl, sym, ap, _∙_}
@@ -30,7 +31,7 @@ use Rattle.table_rows.specs.declared.Located.{Located}
 use Rattle.table_rows.specs.declared.Located.the-variants.{At, Refused}
 use Rattle.table_port.specs.Port.{Samples}
 use Rattle.table_port.specs.declared.Sampled.{Sampled}
-use Rattle.table.specs.Call.{Makes, viewedIn, Reads, speedIn, Saves}
+use Rattle.table.specs.Call.{Makes, viewedIn, ReadingMakes, speedIn, SaveMakes}
 use Rattle.runs.specs.Told.{Told, refused, toldDone, toldView, toldNumber, toldBytes}
 use Rattle.runs.specs.Op.{Op, view, speed, save, changes, restore, reading, looks, lookRow, ruleOf, answerOf}
 use Rattle.runs.specs.Run.{port, tableBy, tableNext, bitsOf, answerIn, heardOf, Says}
@@ -113,7 +114,7 @@ module _ {t u : List ℕ} {k : ℕ} where
   restore-is bytes = done-is (restore bytes) (restoreRow bytes) refl refl
 
   -- HEADLINE: a reading.
-  pub reading-is : (x : ℕ) {a : Reckoned} → Reads x t k u a ↔ Says (reading x) t k u (toldNumber a)
+  pub reading-is : (x : ℕ) {a : Reckoned} → ReadingMakes x t k u a ↔ Says (reading x) t k u (toldNumber a)
   unfolding tableNext tableBy answerIn answerOf ruleOf
   reading-is x {a} =
       let told = tell-found toldNumber Unreckoned (readingRow x) (λ e. refl) (located t k) in (
@@ -140,7 +141,7 @@ module _ {t u : List ℕ} {k : ℕ} where
       )
 
 -- HEADLINE: a save, which leaves the table: b is what the buffer holds before it, d after it.
-pub save-is : {t : List ℕ} {k : ℕ} {b d : List ℕ} {a : Written} → Saves t k b d a → Says (looks (save b)) t k t (toldBytes a d)
+pub save-is : {t : List ℕ} {k : ℕ} {b d : List ℕ} {a : Written} → SaveMakes t k b d a → Says (looks (save b)) t k t (toldBytes a d)
 unfolding tableNext answerIn answerOf lookRow
 save-is {t} {k} {b} {d} {a} w = record { table = sym (look-keeps t k (save b)); told = rw (w .answer, w .buffer) (go (located t k)) }
   where

@@ -1,5 +1,5 @@
--- The calls that name one axis, as data: document 01, "Calls that name one axis" and "The saved record". What a call makes of the named row and what
--- it answers is said here once, call by call.
+-- The calls that name one axis, as data: document 01, "Calls that name one axis" and "The saved record".
+-- What a call makes of the named row and what it answers is said here once, call by call.
 use Prim.Native.Nat.{ℕ}
 use mathlib.Core.Path.{_≡_}
 use mathlib.Core.List.{List}
@@ -22,8 +22,8 @@ pub data Look : Type 0 where
   speed : ℕ → Look
   save : List ℕ → Look
 
--- A call that names the axis, with any arguments: one of the code's own `Change`, and restore by the record's bytes, make another row and answer only
--- that they did; a reading makes another row and answers more than that.
+-- A call that names the axis, with any arguments. The code's own `Change`, and restore by the record's bytes, make another row and
+-- answer only that they did; a reading makes another row and answers more than that.
 pub data Op : Type 0 where
   changes : Change → Op
   restore : List ℕ → Op

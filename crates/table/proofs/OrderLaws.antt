@@ -49,7 +49,7 @@ use Rattle.table_rows.specs.Located.{located, onFound}
 use Rattle.table.specs.Call.{Makes, viewedIn, readIn, speedIn, saveIn}
 use Rattle.table.specs.Order.{Ordered}
 use Rattle.table_rows.specs.declared.Located.the-variants.{At, Refused}
-use Rattle.table_rows.proofs.TableLaws.{axes-of, length-wrong}
+use Rattle.table_rows.proofs.RowsLaws.{axes-of, length-wrong}
 use Rattle.table_rows.proofs.LocatedLaws.{found-none, found-past, found-at}
 
 -- ---- one law for every call
@@ -71,12 +71,13 @@ search t k = go (eqb (axesIn (length t)) 0) refl (ltb k (axesIn (length t))) ref
         let l = ltb-false _ _ h in
         past e l (sym (found-past t k e l))
 
-module _ {A : Type 0} (number : A → ℕ) (refuse : Refusal → A) (same : (e : Refusal) → number (refuse e) ≡ numberOf e) (say : Row → A) (t : List ℕ) (k : ℕ) where
+module _ {A : Type 0} (number : A → ℕ) (refuse : Refusal → A) (same : (e : Refusal) → number (refuse e) ≡ numberOf e)
+    (say : Row → A) (t : List ℕ) (k : ℕ) where
   -- A call that is refused for want of a row is not refused for another reason.
   only : (e f : Refusal) → numberOf e ≢ numberOf f → located t k ≡ Refused e → number (onFound refuse say (located t k)) ≢ numberOf f
   only e f n q w = n (sym (same e) ∙ rw q at w)
 
-  -- HEADLINE: a call whose own rule gives only later reasons, in an order that has LENGTH before AXIS, says both exactly where their lines do.
+  -- HEADLINE: a call whose own rule gives only later reasons, in an order with LENGTH before AXIS, says both exactly where their lines do.
   pub by-order : (order : List Refusal) → placeIn order (numberOf Length) ≤ placeIn order (numberOf Axis) →
       ((r : Row) → After order Axis (number (say r))) → Ordered number say t k (onFound refuse say (located t k))
   by-order order first late = go (search t k)
@@ -107,8 +108,8 @@ module _ {A : Type 0} (number : A → ℕ) (refuse : Refusal → A) (same : (e :
       (number (onFound refuse say (located t k)) ≢ numberOf BROKEN) × (number (onFound refuse say (located t k)) ≢ numberOf EMPTY)
   any-row late = (never BROKEN (lit≤ tt) (λ e. omega arith) (λ e. omega arith), never EMPTY (lit≤ tt) (λ e. omega arith) (λ e. omega arith))
     where
-      never : (f : Refusal) → placeIn checked (numberOf f) ≤ placeIn checked (numberOf EMPTY) → numberOf Length ≢ numberOf f → numberOf Axis ≢ numberOf f →
-          number (onFound refuse say (located t k)) ≢ numberOf f
+      never : (f : Refusal) → placeIn checked (numberOf f) ≤ placeIn checked (numberOf EMPTY) →
+          numberOf Length ≢ numberOf f → numberOf Axis ≢ numberOf f → number (onFound refuse say (located t k)) ≢ numberOf f
       never f h a b e = go (search t k)
         where
           go : Search t k → ⊥
@@ -135,8 +136,9 @@ abbrev either : {A : Type 0} (number : A → ℕ) (e : Refusal) (b : Bool) (p q 
 either = after-either checked
 
 -- A call that takes sound rows that are not empty: BROKEN and EMPTY are later than AXIS, and so is what follows.
-by-status : {A : Type 0} (number : A → ℕ) (refuse : Refusal → A) (same : (e : Refusal) → number (refuse e) ≡ numberOf e) (sampled counter : A) →
-    After checked Axis (number sampled) → After checked Axis (number counter) → (s : Status) → After checked Axis (number (byStatus refuse sampled counter s))
+by-status : {A : Type 0} (number : A → ℕ) (refuse : Refusal → A) (same : (e : Refusal) → number (refuse e) ≡ numberOf e) →
+    (sampled counter : A) → After checked Axis (number sampled) → After checked Axis (number counter) → (s : Status) →
+    After checked Axis (number (byStatus refuse sampled counter s))
 by-status number refuse same a b x y Broken = inr (rw (same BROKEN) (lit< tt))
 by-status number refuse same a b x y Empty = inr (rw (same EMPTY) (lit< tt))
 by-status number refuse same a b x y Sampled = x
@@ -226,7 +228,8 @@ module _ (rule : Row → Changed) {t u : List ℕ} {k : ℕ} {a : Done} (w : Mak
 
 -- HEADLINE: setup says LENGTH, then AXIS, then its own, and never BROKEN or EMPTY.
 pub setup-ordered : (kind depth width turn : ℕ) {t u : List ℕ} {k : ℕ} {a : Done} → Makes (setupRow kind depth width turn) t k u a →
-    Ordered doneNumber (λ r. doneOf (setupRow kind depth width turn r)) t k a × ((doneNumber a ≢ numberOf BROKEN) × (doneNumber a ≢ numberOf EMPTY))
+    Ordered doneNumber (λ r. doneOf (setupRow kind depth width turn r)) t k a ×
+    ((doneNumber a ≢ numberOf BROKEN) × (doneNumber a ≢ numberOf EMPTY))
 setup-ordered kind depth width turn w = any-ordered _ w (setup-late kind depth width turn)
 
 -- HEADLINE: so does erase.
@@ -240,7 +243,8 @@ pub restore-ordered : (s : List ℕ) {t u : List ℕ} {k : ℕ} {a : Done} → M
 restore-ordered s w = any-ordered _ w (restore-late s)
 
 -- HEADLINE: preset says LENGTH, then AXIS, then its own.
-pub preset-ordered : (p : ℤ) {t u : List ℕ} {k : ℕ} {a : Done} → Makes (presetRow p) t k u a → Ordered doneNumber (λ r. doneOf (presetRow p r)) t k a
+pub preset-ordered : (p : ℤ) {t u : List ℕ} {k : ℕ} {a : Done} → Makes (presetRow p) t k u a →
+    Ordered doneNumber (λ r. doneOf (presetRow p r)) t k a
 preset-ordered p w = ordered-by _ w (preset-late p)
 
 -- HEADLINE: so does arm.
@@ -248,7 +252,8 @@ pub arm-ordered : {t u : List ℕ} {k : ℕ} {a : Done} → Makes armRow t k u a
 arm-ordered w = ordered-by _ w arm-late
 
 -- HEADLINE: so does acknowledge.
-pub acknowledge-ordered : {t u : List ℕ} {k : ℕ} {a : Done} → Makes acknowledgeRow t k u a → Ordered doneNumber (λ r. doneOf (acknowledgeRow r)) t k a
+pub acknowledge-ordered : {t u : List ℕ} {k : ℕ} {a : Done} → Makes acknowledgeRow t k u a →
+    Ordered doneNumber (λ r. doneOf (acknowledgeRow r)) t k a
 acknowledge-ordered w = ordered-by _ w acknowledge-late
 
 -- HEADLINE: so does a view.

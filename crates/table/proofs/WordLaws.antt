@@ -8,7 +8,7 @@ use Rattle.axis.specs.declared.row.Row.{Row}
 use Rattle.record.specs.Record.{readAs}
 use Rattle.record.specs.declared.answer.Read.{Read}
 use Rattle.record.specs.declared.answer.Read.the-variants.{Accepted, Refused as Unread}
-use Rattle.row_calls.specs.Calls.{changeRow, eraseRow}
+use Rattle.row_calls.specs.Calls.{changeRow}
 use Rattle.row_saving.specs.Saving.{restoreRow}
 use Rattle.row_counter.specs.Reading.{readRow}
 use Rattle.row_calls.specs.declared.apply.Change.{Change}
@@ -21,7 +21,7 @@ use Rattle.row_calls.proofs.SetupLaws.{setup-makes, erase-makes}
 use Rattle.row_saving.proofs.SaveLaws.{restore-refused, restore-makes}
 use Rattle.table_rows.specs.Table.{AllWords, rowAt}
 use Rattle.table.specs.Call.{ruled, tableAfter}
-use Rattle.table_rows.proofs.TableLaws.{set-words}
+use Rattle.table_rows.proofs.RowsLaws.{set-words}
 use Rattle.table.proofs.CallLaws.{replaced}
 
 -- A rule makes rows of 64-bit words.

@@ -27,7 +27,7 @@ use Rattle.table_rows.specs.Table.{axesIn, rowAt, setRow}
 use Rattle.table_rows.specs.Located.{located}
 use Rattle.table_port.specs.Port.{nibble, sampledTo, sampledTable}
 use Rattle.table.specs.Call.{tableAfter, viewedIn}
-use Rattle.table_rows.proofs.TableLaws.{row-same}
+use Rattle.table_rows.proofs.RowsLaws.{row-same}
 use Rattle.table_rows.proofs.LocatedLaws.{found-at}
 use Rattle.table_port.proofs.PortLaws.{length-sampledTo}
 use Rattle.trace_axis.specs.Trace.{LIMIT, started, tracedBy, lookedAt, fedWith, reportOf, lowFour, steppedBy, inputRow, inputReport}

@@ -1,5 +1,5 @@
 use Rattle.axis.specs.Limit.{mostAxes}
-use Rattle.table_rows.proofs.TableLaws.{axes-held, axes-none}
+use Rattle.table_rows.proofs.RowsLaws.{axes-held, axes-none}
 use Rattle.table_rows.proofs.axes_in.Statement.{statement}
 use Rattle.table_rows.proofs.axes_in.Tie as tie
 
