@@ -1,3 +1,4 @@
+pub mod Limit
 pub mod Kind
 pub mod Config
 pub mod Row

@@ -26,10 +26,11 @@ use Rattle.row_counter.specs.Reading.{readRow}
 use Rattle.row_counter.specs.Counter.{newest, shown, rowRead, Gentle, moved}
 use Rattle.row_saving.proofs.SaveLaws.{within-parts}
 use Rattle.row_counter.proofs.CounterLaws.{counter-follows, counter-position}
-use Rattle.runs.specs.Op.{Look, setup, preset, arm, acknowledge, restore, changes, reading, looks, changeRow, ruleOf, rowAfter}
+use Rattle.row_calls.specs.declared.apply.Change.the-variants.{Setup, Preset, Arm, Acknowledge}
+use Rattle.runs.specs.Op.{Look, changes, restore, reading, looks, ruleOf, rowAfter}
 use Rattle.runs.specs.Event.{Event, bits, asked, rowNext, rowSince}
 use Rattle.history.specs.Phase.{phaseOf, afterEvent, afterChange, afterCall}
-use Rattle.history.specs.Counter.{Aside, Reads, none, read, between}
+use Rattle.history.specs.Counter.{Aside, CounterReads, none, read, between}
 use Rattle.history.proofs.EventLaws.{reading-told, tells}
 use Rattle.history.proofs.RowHistory.{phase-lawful, status-history, counter-history}
 
@@ -37,13 +38,13 @@ use Rattle.history.proofs.RowHistory.{phase-lawful, status-history, cou
 
 -- HEADLINE: a setup that is accepted puts the place to 0.
 pub place-setup : (r : Row) (h : List Event) (kind depth width turn : ℕ) → goodConfig kind depth width turn ≡ true →
-    phaseOf r (asked (changes (setup kind depth width turn)) ∷ h) .place ≡ pos 0
+    phaseOf r (asked (changes (Setup kind depth width turn)) ∷ h) .place ≡ pos 0
 unfolding phaseOf afterEvent afterCall afterChange positionOf
 place-setup r h kind depth width turn good = rw good
 
 -- HEADLINE: a restore that is accepted puts the place to the position saved.
 pub place-restore : (r : Row) (h : List Event) (bytes : List ℕ) (s : Saved) → readAs bytes ≡ Accepted s →
-    phaseOf r (asked (changes (restore bytes)) ∷ h) .place ≡ s .position
+    phaseOf r (asked (restore bytes) ∷ h) .place ≡ s .position
 unfolding phaseOf afterEvent afterCall afterChange
 place-restore r h bytes s e = rw e (position-word (s .position) (within-parts s (accepted-within bytes s e) .1))
 
@@ -52,7 +53,7 @@ module _ {r : Row} (words : Words r) (h : List Event) (counter : statusOf (rowSi
   first = sym (status-history words h) ∙ counter
 
   -- HEADLINE: a preset in the range puts the place of a counter there.
-  pub place-preset : (z : ℤ) → inRange z ≡ true → phaseOf r (asked (changes (preset z)) ∷ h) .place ≡ z
+  pub place-preset : (z : ℤ) → inRange z ≡ true → phaseOf r (asked (changes (Preset z)) ∷ h) .place ≡ z
   unfolding phaseOf afterEvent afterCall afterChange
   place-preset z ok = rw (ok, first)
 
@@ -76,12 +77,12 @@ pub sample-aside : (n : ℕ) → Aside (bits n)
 unfolding rowNext
 sample-aside n r c = ap (λ (t : SteppedRow). t .row) (counter-stays r n c)
 
-pub arm-aside : Aside (asked (changes arm))
-unfolding rowNext rowAfter ruleOf changeRow armRow
+pub arm-aside : Aside (asked (changes Arm))
+unfolding rowNext rowAfter ruleOf armRow
 arm-aside r c = rw c
 
-pub acknowledge-aside : Aside (asked (changes acknowledge))
-unfolding rowNext rowAfter ruleOf changeRow acknowledgeRow
+pub acknowledge-aside : Aside (asked (changes Acknowledge))
+unfolding rowNext rowAfter ruleOf acknowledgeRow
 acknowledge-aside r c = rw c
 
 pub look-aside : (l : Look) → Aside (asked (looks l))
@@ -95,7 +96,7 @@ module _ (r : Row) (counter : statusOf r ≡ Counter) where
   abbrev start : ℤ
   start = positionOf (axisOf r .word)
 
-  only-readings : {h : List Event} {ps : List ℤ} → Reads width h ps → Gentle width start ps → rowSince r h ≡ rowRead width r ps
+  only-readings : {h : List Event} {ps : List ℤ} → CounterReads width h ps → Gentle width start ps → rowSince r h ≡ rowRead width r ps
   unfolding rowSince rowRead rowNext rowAfter ruleOf
   only-readings none g = refl
   only-readings (read p d) (moved q ps ok near g) = ap (λ (s : Row). leftBy s (readRow (shown width p) s)) (only-readings d g)
@@ -104,5 +105,5 @@ module _ (r : Row) (counter : statusOf r ≡ Counter) where
       q _ (ap statusOf same ∙ counter-follows r counter g .status) ∙ same
 
   -- HEADLINE: a counter on a shaft that moves less than half a turn between readings is where the shaft is, whatever else happens to its row between.
-  pub counter-shaft : {h : List Event} {ps : List ℤ} → Reads width h ps → Gentle width start ps → positionOf (rowSince r h .w0) ≡ newest start ps
+  pub counter-shaft : {h : List Event} {ps : List ℤ} → CounterReads width h ps → Gentle width start ps → positionOf (rowSince r h .w0) ≡ newest start ps
   counter-shaft d g = ap (λ (s : Row). positionOf (s .w0)) (only-readings d g) ∙ counter-position r counter g

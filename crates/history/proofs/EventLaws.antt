@@ -29,14 +29,16 @@ use Rattle.record.specs.declared.answer.Read.the-variants.{Accepted, Refused as
 use Rattle.record.proofs.RecordLaws.{accepted-within}
 use Rattle.row_calls.specs.Change.{changed}
 use Rattle.row_counter.specs.Reading.{readAxis, readingOf, readingRow, storedRow, readRow}
-use Rattle.row_calls.specs.Calls.{byStatus, leftBy, configOf, setupRow, eraseRow, placeRow, presetRow, armRow, acknowledgeRow}
+use Rattle.row_calls.specs.Calls.{byStatus, leftBy, configOf, changeRow, setupRow, eraseRow, placeRow, presetRow, armRow, acknowledgeRow}
 use Rattle.row_saving.specs.Saving.{restoredBy, restoreRow}
 use Rattle.row_calls.specs.declared.answer.Changed.the-variants.{To, Kept}
 use Rattle.row_saving.proofs.SaveLaws.{within-parts}
 use Rattle.history.specs.Acts.{Act, act, sampled, Accepted as Agreed}
 use Rattle.history.specs.Acts.{preset as placed, arm as armed, acknowledge as acknowledged}
 use Rattle.history.specs.Told.{told}
-use Rattle.runs.specs.Op.{Change, Op, setup, erase, preset, arm, acknowledge, restore, changes, reading, looks, changeRow, ruleOf, rowAfter}
+use Rattle.row_calls.specs.declared.apply.Change.{Change}
+use Rattle.row_calls.specs.declared.apply.Change.the-variants.{Setup, Erase, Preset, Arm, Acknowledge}
+use Rattle.runs.specs.Op.{Op, changes, restore, reading, looks, ruleOf, rowAfter}
 use Rattle.runs.specs.Event.{Event, bits, asked, rowNext, rowSince}
 use Rattle.history.specs.Phase.{Phase, begun, acted, moved, bySort, readTo, restoredTo, afterChange, afterCall, afterEvent, phaseOf, toldBy, toldRow}
 use Rattle.history.specs.Lawful.{Beginning, given, erased, made, Lawful}
@@ -137,12 +139,12 @@ module _ {r : Row} (words : Words r) where
 
     -- ---- the events
 
-    sets : (kind depth width turn : ℕ) → Tells r (afterChange p (setup kind depth width turn)) (leftBy now (setupRow kind depth width turn now))
+    sets : (kind depth width turn : ℕ) → Tells r (afterChange p (Setup kind depth width turn)) (leftBy now (setupRow kind depth width turn now))
     unfolding afterChange setupRow wordOf inRange
     sets kind depth width turn =
         by-test (goodConfig kind depth width turn) _ _ _ (λ good. starts (made (configOf kind depth width turn) (pos 0) good refl))
 
-    presets : (z : ℤ) → Tells r (afterChange p (preset z)) (leftBy now (presetRow z now))
+    presets : (z : ℤ) → Tells r (afterChange p (Preset z)) (leftBy now (presetRow z now))
     unfolding afterChange presetRow placeRow act
     presets z =
         subst (λ (q : Phase). Tells r q (leftBy now (presetRow z now))) (sym (test-sorts (inRange z) (acted p (placed z)) (moved p z) p (statusOf (p .start))))
@@ -167,8 +169,8 @@ module _ {r : Row} (words : Words r) where
         go e (Number z) f = moves z (nearest (axisOf (p .start) .width) (p .place) z x f .0) e
         go e (Unreckoned c) f = t
 
-    restores : (bytes : List ℕ) → Tells r (afterChange p (restore bytes)) (leftBy now (restoreRow bytes now))
-    unfolding afterChange restoreRow restoredBy
+    restores : (bytes : List ℕ) → Tells r (afterCall p (restore bytes)) (leftBy now (restoreRow bytes now))
+    unfolding afterCall restoreRow restoredBy
     restores bytes = go (readAs bytes) refl
       where
         go : (a : Read) → readAs bytes ≡ a → Tells r (restoredTo p a) (leftBy now (restoredBy a))
@@ -176,17 +178,17 @@ module _ {r : Row} (words : Words r) where
         go (Unread f) e = t
 
     changed-by : (c : Change) → Tells r (afterChange p c) (leftBy now (changeRow c now))
-    unfolding afterChange changeRow eraseRow armRow acknowledgeRow act
-    changed-by (setup kind depth width turn) = sets kind depth width turn
-    changed-by erase = starts erased
-    changed-by (preset z) = presets z
-    changed-by arm = sampled-only armed tt
-    changed-by acknowledge = sampled-only acknowledged tt
-    changed-by (restore bytes) = restores bytes
+    unfolding afterChange eraseRow armRow acknowledgeRow act
+    changed-by (Setup kind depth width turn) = sets kind depth width turn
+    changed-by Erase = starts erased
+    changed-by (Preset z) = presets z
+    changed-by Arm = sampled-only armed tt
+    changed-by Acknowledge = sampled-only acknowledged tt
 
     calls : (o : Op) → Tells r (afterCall p o) (rowAfter now o)
     unfolding afterCall rowAfter ruleOf
     calls (changes c) = changed-by c
+    calls (restore bytes) = restores bytes
     calls (reading x) = readings x
     calls (looks l) = t
 

@@ -20,7 +20,9 @@ use Rattle.record.specs.Record.{readAs}
 use Rattle.record.specs.declared.answer.Read.{Read}
 use Rattle.record.specs.declared.answer.Read.the-variants.{Accepted, Refused as Unread}
 use Rattle.runs.specs.Told.{marksOf}
-use Rattle.runs.specs.Op.{Change, Op, setup, erase, preset, arm, acknowledge, restore, changes, reading, looks, Refused}
+use Rattle.row_calls.specs.declared.apply.Change.{Change}
+use Rattle.row_calls.specs.declared.apply.Change.the-variants.{Setup, Erase, Preset, Arm, Acknowledge}
+use Rattle.runs.specs.Op.{Op, changes, restore, reading, looks, Refused}
 use Rattle.runs.specs.Event.{Event, bits, asked, rowNext, rowSince}
 use Rattle.runs.proofs.CallLaws.{refused-after}
 use Rattle.history.specs.Phase.{Phase, moved, bySort, readTo, restoredTo, afterChange, afterCall, afterEvent, phaseOf, toldBy, toldRow}
@@ -70,18 +72,18 @@ module _ (p : Phase) where
   -- A change that begins no phase leaves the phase's start.
   start-change : (c : Change) → renews c ≡ false → afterChange p c .start ≡ p .start
   unfolding afterChange renews
-  start-change (setup kind depth width turn) q = rw q
-  start-change erase q = absurd (true≢false q)
-  start-change (preset z) q = test-start (inRange z) _ (sort-start _ (moved p z) refl refl (statusOf (p .start)))
-  start-change arm q = sort-start _ p refl refl (statusOf (p .start))
-  start-change acknowledge q = sort-start _ p refl refl (statusOf (p .start))
-  start-change (restore bytes) q = restored-start (readAs bytes) q
+  start-change (Setup kind depth width turn) q = rw q
+  start-change Erase q = absurd (true≢false q)
+  start-change (Preset z) q = test-start (inRange z) _ (sort-start _ (moved p z) refl refl (statusOf (p .start)))
+  start-change Arm q = sort-start _ p refl refl (statusOf (p .start))
+  start-change Acknowledge q = sort-start _ p refl refl (statusOf (p .start))
 
   -- So does an event.
   start-next : (e : Event) → begins e ≡ false → afterEvent p e .start ≡ p .start
   unfolding afterEvent afterCall begins
   start-next (bits n) q = sort-start _ p refl refl (statusOf (p .start))
   start-next (asked (changes c)) q = start-change c q
+  start-next (asked (restore bytes)) q = restored-start (readAs bytes) q
   start-next (asked (reading x)) q =
       sort-start p _ refl (read-start (widened (axisOf (p .start) .width) (p .place) x)) (statusOf (p .start))
   start-next (asked (looks l)) q = refl

@@ -15,7 +15,7 @@ abbrev pub Aside : Event → Type 0
 Aside e = (r : Row) → statusOf r ≡ Counter → rowNext r e ≡ r
 
 -- Events that read a counter of w bits at each of some positions, with others between that leave it alone.
-pub data Reads (w : ℕ) : List Event → List ℤ → Type 0 where
-  none : Reads w [] []
-  read : {h : List Event} {ps : List ℤ} (p : ℤ) → Reads w h ps → Reads w (asked (reading (shown w p)) ∷ h) (p ∷ ps)
-  between : {h : List Event} {ps : List ℤ} (e : Event) → Aside e → Reads w h ps → Reads w (e ∷ h) ps
+pub data CounterReads (w : ℕ) : List Event → List ℤ → Type 0 where
+  none : CounterReads w [] []
+  read : {h : List Event} {ps : List ℤ} (p : ℤ) → CounterReads w h ps → CounterReads w (asked (reading (shown w p)) ∷ h) (p ∷ ps)
+  between : {h : List Event} {ps : List ℤ} (e : Event) → Aside e → CounterReads w h ps → CounterReads w (e ∷ h) ps

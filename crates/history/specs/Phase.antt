@@ -22,7 +22,9 @@ use Rattle.record.specs.declared.answer.Read.the-variants.{Accepted, Refused as
 use Rattle.row_counter.specs.Reading.{readAxis}
 use Rattle.row_calls.specs.Calls.{configOf}
 use Rattle.runs.specs.Told.{Marks, Told, marks}
-use Rattle.runs.specs.Op.{Change, Op, setup, erase, preset, arm, acknowledge, restore, changes, reading, looks, answerOf}
+use Rattle.row_calls.specs.declared.apply.Change.{Change}
+use Rattle.row_calls.specs.declared.apply.Change.the-variants.{Setup, Erase, Preset, Arm, Acknowledge}
+use Rattle.runs.specs.Op.{Op, changes, restore, reading, looks, answerOf}
 use Rattle.runs.specs.Event.{Event, bits, asked}
 use Rattle.history.specs.Acts.{Act, sampled}
 use Rattle.history.specs.Acts.{preset as placed, arm as armed, acknowledge as acknowledged}
@@ -67,17 +69,17 @@ restoredTo p (Unread e) = p
 
 -- The phase after a change; one that is refused changes nothing.
 unfoldable pub afterChange : Phase → Change → Phase
-afterChange p (setup kind depth width turn) =
+afterChange p (Setup kind depth width turn) =
     cond (goodConfig kind depth width turn) (begun (rowOf (fresh (configOf kind depth width turn)))) p
-afterChange p erase = begun emptyRow
-afterChange p (preset z) = cond (inRange z) (bySort (acted p (placed z)) (moved p z) (statusOf (p .start)) p) p
-afterChange p arm = bySort (acted p armed) p (statusOf (p .start)) p
-afterChange p acknowledge = bySort (acted p acknowledged) p (statusOf (p .start)) p
-afterChange p (restore bytes) = restoredTo p (readAs bytes)
+afterChange p Erase = begun emptyRow
+afterChange p (Preset z) = cond (inRange z) (bySort (acted p (placed z)) (moved p z) (statusOf (p .start)) p) p
+afterChange p Arm = bySort (acted p armed) p (statusOf (p .start)) p
+afterChange p Acknowledge = bySort (acted p acknowledged) p (statusOf (p .start)) p
 
 -- The phase after a call; one that only looks changes nothing.
 unfoldable pub afterCall : Phase → Op → Phase
 afterCall p (changes c) = afterChange p c
+afterCall p (restore bytes) = restoredTo p (readAs bytes)
 afterCall p (reading x) = bySort p (readTo p (widened (axisOf (p .start) .width) (p .place) x)) (statusOf (p .start)) p
 afterCall p (looks l) = p
 

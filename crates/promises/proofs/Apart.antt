@@ -11,7 +11,7 @@ use Rattle.promises.proofs.RunLaws.{alone}
 -- What two runs agree on for axis k.
 pub record Agree (k : ℕ) (t u : List ℕ) (cs ds : List Call) : Type 0 where
   pub row : rowAt (tableRun t cs) k ≡ rowAt (tableRun u ds) k
-  pub told : heard k t cs ≡ heard k u ds
+  pub answers : heard k t cs ≡ heard k u ds
   pub rows : rows k t cs ≡ rows k u ds
 
 -- HEADLINE: two tables of one legal length and two runs of calls, which may differ in length: where they agree on axis k's starting row, on the calls
@@ -24,6 +24,6 @@ apart k t u l h e cs ds q =
     let b = alone u k (rw (← l) h) ds in
     record {
       row = a .row ∙ rw (e, q) (sym (b .row));
-      told = a .told ∙ rw (e, q) (sym (b .told));
+      answers = a .answers ∙ rw (e, q) (sym (b .answers));
       rows = a .rows ∙ rw (e, q) (sym (b .rows));
     }

@@ -19,7 +19,7 @@ use Rattle.history.proofs.RowHistory.{row-history}
 use Rattle.history.proofs.SampledHistory.{position-row, doubles-row}
 use Rattle.history.proofs.CounterHistory.{position-counter}
 use Rattle.table_rows.specs.Table.{axesIn, rowAt, AllWords}
-use Rattle.table_rows.proofs.TableLaws.{row-words}
+use Rattle.table_rows.proofs.RowsLaws.{row-words}
 use Rattle.promises.specs.Own.{events, rowRun}
 use Rattle.promises.proofs.RunLaws.{alone}
 

@@ -15,7 +15,7 @@ use Rattle.table_port.specs.declared.Sampled.{Sampled}
 use Rattle.table_port.specs.declared.Sampled.the-variants.{Seen, Refused as Unsampled}
 use Rattle.table_port.proofs.PortLaws.{sample-row, sample-bits, sample-refused}
 use Rattle.runs.specs.Told.{Told, marks, marksOf}
-use Rattle.runs.specs.Op.{Look, Op, view, speed, save, changes, reading, looks, lookRow, ruleOf, answerOf, rowAfter}
+use Rattle.runs.specs.Op.{Look, Op, view, speed, save, changes, restore, reading, looks, lookRow, ruleOf, answerOf, rowAfter}
 use Rattle.runs.specs.Event.{Event, asked, rowNext, toldOf}
 use Rattle.runs.specs.Run.{Call, port, names, tableBy, tableNext, tableRun, bitsOf, answerIn, heardOf, heard, rowsOf, rows}
 use Rattle.runs.proofs.CallLaws.{next-length, other-row, named-row, named-answer}
@@ -27,6 +27,7 @@ use Rattle.promises.proofs.SaveBytes.{save-alike}
 seen-row : (r : Row) (o : Op) → rowAfter r (seen o) ≡ rowAfter r o
 unfolding rowAfter ruleOf seen
 seen-row r (changes c) = refl
+seen-row r (restore bytes) = refl
 seen-row r (reading x) = refl
 seen-row r (looks l) = refl
 
@@ -39,6 +40,7 @@ seen-look r (save buffer) = save-alike r (replicate (length buffer) 0) buffer (l
 seen-answer : (r : Row) (o : Op) → answerOf (seen o) r ≡ answerOf o r
 unfolding answerOf seen
 seen-answer r (changes c) = refl
+seen-answer r (restore bytes) = refl
 seen-answer r (reading x) = refl
 seen-answer r (looks l) = seen-look r l
 
@@ -56,16 +58,16 @@ module _ (t : List ℕ) (k : ℕ) (h : k < axesIn (length t)) where
       go false e = other-row t j k o (λ q. eqb-false j k e (sym q))
 
   -- what axis k is told by a call is what its row alone is told by k's own part
-  sample-told : (word : ℕ) (a : Sampled) → sampledAnswer t word ≡ a → bitsOf k a ≡ marks (marksOf (stepRow (rowAt t k) (nibble word k))) ∷ []
+  sample-heard : (word : ℕ) (a : Sampled) → sampledAnswer t word ≡ a → bitsOf k a ≡ marks (marksOf (stepRow (rowAt t k) (nibble word k))) ∷ []
   unfolding bitsOf
-  sample-told word (Seen m) e =
+  sample-heard word (Seen m) e =
       let b = sample-bits t word k h m e in
       rw (b .doubles, b .index, b .broken)
-  sample-told word (Unsampled e) q = absurd (omega (arith, sample-refused t word e .0 q .0))
+  sample-heard word (Unsampled e) q = absurd (omega (arith, sample-refused t word e .0 q .0))
 
   heard-next : (c : Call) → heardOf k t c ≡ tolds (rowAt t k) (eventOf k c)
   unfolding heardOf eventOf tolds toldOf
-  heard-next (port word) = sample-told word (sampledAnswer t word) refl
+  heard-next (port word) = sample-heard word (sampledAnswer t word) refl
   heard-next (names j o) = go (eqb j k)
     where
       go : (b : Bool) → cond b (answerIn t k o ∷ []) [] ≡ tolds (rowAt t k) (cond b (asked (seen o) ∷ []) [])
@@ -101,18 +103,18 @@ rows-append r (e ∷ es) fs = ap (λ (l : List Row). rowNext r e ∷ l) (rows-ap
 -- what a run gives axis k
 pub record Alone (t : List ℕ) (k : ℕ) (cs : List Call) : Type 0 where
   pub row : rowAt (tableRun t cs) k ≡ rowRun (rowAt t k) (events k cs)
-  pub told : heard k t cs ≡ tolds (rowAt t k) (events k cs)
+  pub answers : heard k t cs ≡ tolds (rowAt t k) (events k cs)
   pub rows : rows k t cs ≡ rowsFrom (rowAt t k) (events k cs)
 
 -- HEADLINE: row k of a run, all that axis k is told and the row after each of its own events are those of row k alone over k's own events.
 pub alone : (t : List ℕ) (k : ℕ) → k < axesIn (length t) → (cs : List Call) → Alone t k cs
 unfolding tableRun heard rows events rowRun tolds rowsFrom
-alone t k h [] = record { row = refl; told = refl; rows = refl }
+alone t k h [] = record { row = refl; answers = refl; rows = refl }
 alone t k h (c ∷ cs) =
     let i = alone (tableNext t c) k (rw (next-length t c) h) cs in
     let n = row-next t k h c in
     record {
       row = i .row ∙ rw (n, run-append (rowAt t k) (eventOf k c) (events k cs));
-      told = rw (i .told, heard-next t k h c, n, tolds-append (rowAt t k) (eventOf k c) (events k cs));
+      answers = rw (i .answers, heard-next t k h c, n, tolds-append (rowAt t k) (eventOf k c) (events k cs));
       rows = rw (i .rows, rows-next t k h c, n, rows-append (rowAt t k) (eventOf k c) (events k cs));
     }

@@ -6,7 +6,7 @@ use lib.ListN.{length}
 use Rattle.axis.specs.Row.{Words}
 use Rattle.axis.specs.declared.row.Row.{Row}
 use Rattle.table_rows.specs.Table.{axesIn, rowAt, AllWords}
-use Rattle.table_rows.proofs.TableLaws.{row-words}
+use Rattle.table_rows.proofs.RowsLaws.{row-words}
 use Rattle.runs.specs.Told.{Told}
 use Rattle.runs.specs.Event.{Event, rowSince}
 use Rattle.runs.specs.Run.{Call, heard}
@@ -25,4 +25,4 @@ all-told words h (e ∷ es) = ap₂ (λ (a : Told) (l : List Told). a ∷ l) (to
 pub heard-told : (t : List ℕ) (k : ℕ) → AllWords t → k < axesIn (length t) → (cs : List Call) →
     heard k t cs ≡ toldSince (phaseOf (rowAt t k) []) (events k cs)
 unfolding rowSince
-heard-told t k words h cs = alone t k h cs .told ∙ all-told (row-words t k words) [] (events k cs)
+heard-told t k words h cs = alone t k h cs .answers ∙ all-told (row-words t k words) [] (events k cs)

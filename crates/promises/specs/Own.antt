@@ -7,7 +7,7 @@ use lib.ListN.{length, replicate}
 use Rattle.axis.specs.declared.row.Row.{Row}
 use Rattle.table_port.specs.Port.{nibble}
 use Rattle.runs.specs.Told.{Told}
-use Rattle.runs.specs.Op.{Look, Op, view, speed, save, changes, reading, looks}
+use Rattle.runs.specs.Op.{Look, Op, view, speed, save, changes, restore, reading, looks}
 use Rattle.runs.specs.Event.{Event, bits, asked, rowNext, toldOf}
 use Rattle.runs.specs.Run.{Call, port, names}
 use Rattle.history.specs.Phase.{Phase, afterEvent, toldAt}
@@ -21,6 +21,7 @@ seenLook (save buffer) = save (replicate (length buffer) 0)
 -- What an axis sees of a call that names it.
 unfoldable pub seen : Op → Op
 seen (changes c) = changes c
+seen (restore bytes) = restore bytes
 seen (reading x) = reading x
 seen (looks l) = looks (seenLook l)
 

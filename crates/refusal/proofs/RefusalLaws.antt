@@ -1,37 +1,64 @@
 -- The laws of the reasons: no number is 0, and number and found value together tell them apart.
 use mathlib.Core.Path.{_≡_, refl, sym, ap, _∙_}
-use mathlib.Core.List.{[], _∷_}
-use Prim.Native.Nat.{ℕ}
+use mathlib.Core.Logic.{inl, inr}
+use mathlib.Core.Bool.{Bool, true, false, cond}
+use mathlib.Core.List.{List, [], _∷_}
+use Prim.Native.Nat.{ℕ, _≤_}
 use native.Mathlib.Omega.{arith}
 use lib.ListN.{getD}
 use Rattle.refusal.specs.declared.Refusal.{Refusal}
-use Rattle.refusal.specs.declared.Refusal.the-variants.{Length, Axis, Broken, Empty, Kind, Value, Half, Range, NoPeriod, Room, Layout, Record}
+use Rattle.refusal.specs.declared.Refusal.the-variants.{Length, Axis, Broken, Empty, Kind, Value}
+use Rattle.refusal.specs.declared.Refusal.the-variants.{Half, Range, NoPeriod, Room, Layout, Record}
 use Rattle.refusal.specs.Refusal.{numberOf, foundIn}
+use Rattle.refusal.specs.Order.{checked, placeIn, After}
 
 -- The reason with a number and a found value.
 reason : ℕ → ℕ → Refusal
-reason n f = getD (Length ∷ Length ∷ Axis ∷ Broken ∷ Empty ∷ Kind ∷ Value ∷ Half ∷ Range ∷ NoPeriod ∷ Room ∷ Layout f ∷ Record ∷ []) n Length
+reason n f =
+    getD (Length ∷ Length ∷ Axis ∷ Broken ∷ Empty ∷ Kind ∷ Value ∷ Half ∷ Range ∷ NoPeriod ∷ Room ∷ Layout f ∷ Record ∷ []) n Length
 
-again : (r : Refusal) → reason (numberOf r) (foundIn r) ≡ r
+-- A reason is the one with its number and its found value, and the one at its place in the order.
+again : (r : Refusal) → (reason (numberOf r) (foundIn r) ≡ r) × (numberOf (getD checked (placeIn checked (numberOf r)) Length) ≡ numberOf r)
 unfolding reason
-again Length = refl
-again Axis = refl
-again Broken = refl
-again Empty = refl
-again Kind = refl
-again Value = refl
-again Half = refl
-again Range = refl
-again NoPeriod = refl
-again Room = refl
-again (Layout n) = refl
-again Record = refl
+again Length = (refl, refl)
+again Axis = (refl, refl)
+again Broken = (refl, refl)
+again Empty = (refl, refl)
+again Kind = (refl, refl)
+again Value = (refl, refl)
+again Half = (refl, refl)
+again Range = (refl, refl)
+again NoPeriod = (refl, refl)
+again Room = (refl, refl)
+again (Layout n) = (refl, refl)
+again Record = (refl, refl)
 
 -- HEADLINE: no reason has the number 0, which stands for done.
 pub above-zero : (r : Refusal) → numberOf r ≡ 0 → ⊥
 unfolding reason
-above-zero r z = let e : Length ≡ r = rw z at (again r) in omega (arith, ap numberOf e)
+above-zero r z = let e : Length ≡ r = rw z at (again r .0) in omega (arith, ap numberOf e)
 
 -- HEADLINE: two reasons with one number and one found value are one reason.
 pub told-apart : (r s : Refusal) → numberOf r ≡ numberOf s → foundIn r ≡ foundIn s → r ≡ s
-told-apart r s n f = sym (again r) ∙ rw (n, f) (again s)
+told-apart r s n f = sym (again r .0) ∙ rw (n, f) (again s .0)
+
+-- HEADLINE: every reason has its place in the order in which they are checked, and no other has it.
+pub in-place : (r : Refusal) → numberOf (getD checked (placeIn checked (numberOf r)) Length) ≡ numberOf r
+in-place r = again r .1
+
+module _ (order : List Refusal) (e f : Refusal) {n : ℕ} (sooner : placeIn order (numberOf f) ≤ placeIn order (numberOf e)) where
+  -- An answer that is done or comes after a reason is not refused for that one, nor for one before it.
+  pub after-not : After order e n → n ≡ numberOf f → ⊥
+  after-not (inl z) q = above-zero f (sym q ∙ z)
+  after-not (inr l) q = omega (arith, ap (placeIn order) q)
+
+  -- It comes after every reason before that one too.
+  pub after-sooner : After order e n → After order f n
+  after-sooner (inl z) = inl z
+  after-sooner (inr l) = inr (omega arith)
+
+-- A choice between two answers that are done or come after a reason is one.
+pub after-either : (order : List Refusal) {A : Type 0} (number : A → ℕ) (e : Refusal) (b : Bool) (p q : A) →
+    After order e (number p) → After order e (number q) → After order e (number (cond b p q))
+after-either order number e true p q x y = x
+after-either order number e false p q x y = y

@@ -1,7 +1,8 @@
 -- The reasons for saying no: document 01, "Reasons for saying no".
 use Prim.Native.Nat.{ℕ}
 use Rattle.refusal.specs.declared.Refusal.{Refusal}
-use Rattle.refusal.specs.declared.Refusal.the-variants.{Length, Axis, Broken, Empty, Kind, Value, Half, Range, NoPeriod, Room, Layout, Record}
+use Rattle.refusal.specs.declared.Refusal.the-variants.{Length, Axis, Broken, Empty, Kind, Value}
+use Rattle.refusal.specs.declared.Refusal.the-variants.{Half, Range, NoPeriod, Room, Layout, Record}
 
 -- The number of each reason.
 abbrev pub numberOf : Refusal → ℕ

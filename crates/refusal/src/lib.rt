@@ -2,7 +2,7 @@
 ghost use mathlib.Core.Path.{_≡_};
 ghost use Rattle.refusal.specs.Refusal.{numberOf, foundIn};
 
-// Why a call is refused, in the order in which the reasons are checked.
+// Why a call is refused, by number; specs/Order.antt says in which order the reasons are checked.
 pub enum Refusal {
     Length,
     Axis,

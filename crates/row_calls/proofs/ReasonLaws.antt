@@ -1,15 +1,15 @@
 -- The laws of BROKEN, EMPTY and KIND, each answered exactly where the row is so, and of what is answered past them.
-use Prim.Native.Nat.{ℕ, _<_, _≤_}
-use native.Mathlib.Omega.{arith}
+use Prim.Native.Nat.{ℕ}
 use mathlib.Core.Path.{_≡_, refl, sym, ap, _∙_}
-use mathlib.Core.Logic.{_↔_, _⊎_, inl, inr}
+use mathlib.Core.Logic.{_↔_, inl, inr}
 use mathlib.Core.Bool.{false, cond}
 use lib.Dec.{eqb, lit<, lit≤}
 use borrow.Author.Tests.{eqb-false}
 use lib.IntN.{ℤ}
-use Rattle.integers.proofs.Balance.{Tested, yes, no, test}
 use Rattle.position.specs.Position.{inRange}
 use Rattle.refusal.specs.Refusal.{numberOf}
+use Rattle.refusal.specs.Order.{checked, After}
+use Rattle.refusal.proofs.RefusalLaws.{after-not, after-either}
 use Rattle.refusal.specs.declared.Refusal.{Refusal}
 use Rattle.refusal.specs.declared.Refusal.the-variants.{Broken as BROKEN, Empty as EMPTY, Kind as KIND, Value as VALUE}
 use Rattle.axis.specs.Row.{axisOf, rowOf, freshAt}
@@ -19,11 +19,10 @@ use Rattle.axis.specs.declared.row.Row.{Row}
 use Rattle.axis_sound.specs.declared.Status.{Status}
 use Rattle.axis_sound.specs.declared.Status.the-variants.{Empty, Sampled, Counter, Broken}
 use Rattle.axis_sound.proofs.SoundLaws.{counter-gives}
-use Rattle.row_calls.specs.Answer.{doneOf, doneNumber, viewOf, viewNumber}
+use Rattle.row_calls.specs.Answer.{changedNumber, viewOf, viewNumber}
 use Rattle.row_calls.specs.Change.{presetAxis, armAxis, acknowledgeAxis}
 use Rattle.row_calls.specs.Calls.{byStatus, placeRow, presetRow, armRow, acknowledgeRow, viewRow}
-use Rattle.row_calls.specs.Reasons.{Told}
-use Rattle.row_calls.specs.declared.answer.Changed.{Changed}
+use Rattle.row_calls.specs.Reasons.{StatusReasons}
 use Rattle.row_calls.specs.declared.answer.Changed.the-variants.{To, Kept}
 use Rattle.row_calls.specs.declared.answer.Viewed.the-variants.{Shows, Refused as Unseen}
 use Rattle.row_calls.proofs.StatusLaws.{Live, either-kind}
@@ -34,23 +33,19 @@ other m n e h = absurd (eqb-false m n e h)
 
 -- Done, or a reason after KIND.
 unfoldable pub Past : ℕ → Type 0
-Past n = (n ≡ 0) ⊎ (numberOf KIND < n)
+Past n = After checked KIND n
 
 -- What a call may answer on a sampled row or a counter: neither BROKEN nor EMPTY, and KIND exactly where the row is of the wrong kind.
 record Later (n : ℕ) (wrong : Type 0) : Type 0 where
   full : (n ≡ numberOf BROKEN → ⊥) × (n ≡ numberOf EMPTY → ⊥)
   kind : (n ≡ numberOf KIND) ↔ wrong
 
-past-not : {n : ℕ} → Past n → (m : ℕ) → 0 < m → m ≤ numberOf KIND → n ≡ m → ⊥
-unfolding Past
-past-not (inl z) m l h e = omega arith
-past-not (inr g) m l h e = omega arith
-
 -- The row is of the right kind.
 right : {n : ℕ} {wrong : Type 0} → Past n → (wrong → ⊥) → Later n wrong
+unfolding Past
 right p never = record {
-  full = (past-not p (numberOf BROKEN) (lit< tt) (lit≤ tt), past-not p (numberOf EMPTY) (lit< tt) (lit≤ tt));
-  kind = (λ e. absurd (past-not p (numberOf KIND) (lit< tt) (lit≤ tt) e), λ w. absurd (never w));
+  full = (after-not checked KIND BROKEN (lit≤ tt) p, after-not checked KIND EMPTY (lit≤ tt) p);
+  kind = (λ e. absurd (after-not checked KIND KIND (lit≤ tt) p e), λ w. absurd (never w));
 }
 
 -- The row is of the wrong one.
@@ -69,25 +64,25 @@ apart s t e h = eqb-false (rank s) (rank t) e (ap rank h)
 
 module _ {A : Type 0} (number : A → ℕ) (refuse : Refusal → A) (same : (e : Refusal) → number (refuse e) ≡ numberOf e) where
   -- By the row's status: BROKEN, EMPTY, and past these what the call answers on the two kinds.
-  told : (wrong : Status → Type 0) → (wrong Broken → ⊥) → (wrong Empty → ⊥) → (sampled counter : A) → Later (number sampled) (wrong Sampled) →
-      Later (number counter) (wrong Counter) → (s : Status) → Told (number (byStatus refuse sampled counter s)) s (wrong s)
+  by-reasons : (wrong : Status → Type 0) → (wrong Broken → ⊥) → (wrong Empty → ⊥) → (sampled counter : A) → Later (number sampled) (wrong Sampled) →
+      Later (number counter) (wrong Counter) → (s : Status) → StatusReasons (number (byStatus refuse sampled counter s)) s (wrong s)
   unfolding rank
-  told wrong b e sampled counter onS onC Broken = record {
+  by-reasons wrong b e sampled counter onS onC Broken = record {
     broken = (λ _. refl, λ _. same BROKEN);
     empty = (λ h. other (numberOf BROKEN) (numberOf EMPTY) refl (sym (same BROKEN) ∙ h), λ h. absurd (apart Broken Empty refl h));
     kind = (λ h. other (numberOf BROKEN) (numberOf KIND) refl (sym (same BROKEN) ∙ h), λ w. absurd (b w));
   }
-  told wrong b e sampled counter onS onC Empty = record {
+  by-reasons wrong b e sampled counter onS onC Empty = record {
     broken = (λ h. other (numberOf EMPTY) (numberOf BROKEN) refl (sym (same EMPTY) ∙ h), λ h. absurd (apart Empty Broken refl h));
     empty = (λ _. refl, λ _. same EMPTY);
     kind = (λ h. other (numberOf EMPTY) (numberOf KIND) refl (sym (same EMPTY) ∙ h), λ w. absurd (e w));
   }
-  told wrong b e sampled counter onS onC Sampled = record {
+  by-reasons wrong b e sampled counter onS onC Sampled = record {
     broken = (λ h. absurd (onS .full .0 h), λ h. absurd (apart Sampled Broken refl h));
     empty = (λ h. absurd (onS .full .1 h), λ h. absurd (apart Sampled Empty refl h));
     kind = onS .kind;
   }
-  told wrong b e sampled counter onS onC Counter = record {
+  by-reasons wrong b e sampled counter onS onC Counter = record {
     broken = (λ h. absurd (onC .full .0 h), λ h. absurd (apart Counter Broken refl h));
     empty = (λ h. absurd (onC .full .1 h), λ h. absurd (apart Counter Empty refl h));
     kind = onC .kind;
@@ -95,55 +90,48 @@ module _ {A : Type 0} (number : A → ℕ) (refuse : Refusal → A) (same : (e :
 
   -- A call on both kinds.
   pub both-kinds : (sampled counter : A) → Past (number sampled) → Past (number counter) → (s : Status) →
-      Told (number (byStatus refuse sampled counter s)) s ⊥
-  both-kinds sampled counter onS onC = told (λ _. ⊥) (λ w. w) (λ w. w) sampled counter (right onS (λ w. w)) (right onC (λ w. w))
+      StatusReasons (number (byStatus refuse sampled counter s)) s ⊥
+  both-kinds sampled counter onS onC = by-reasons (λ _. ⊥) (λ w. w) (λ w. w) sampled counter (right onS (λ w. w)) (right onC (λ w. w))
 
   -- A call on sampled rows only.
-  pub sampled-only : (sampled : A) → Past (number sampled) → (s : Status) → Told (number (byStatus refuse sampled (refuse KIND) s)) s (s ≡ Counter)
+  pub sampled-only : (sampled : A) → Past (number sampled) → (s : Status) → StatusReasons (number (byStatus refuse sampled (refuse KIND) s)) s (s ≡ Counter)
   unfolding rank
   sampled-only sampled onS =
-      told (λ s. s ≡ Counter) (apart Broken Counter refl) (apart Empty Counter refl) sampled (refuse KIND)
+      by-reasons (λ s. s ≡ Counter) (apart Broken Counter refl) (apart Empty Counter refl) sampled (refuse KIND)
       (right onS (apart Sampled Counter refl)) (rw (same KIND) (wrongly refl))
 
   -- A call on counters only.
-  pub counters-only : (counter : A) → Past (number counter) → (s : Status) → Told (number (byStatus refuse (refuse KIND) counter s)) s (s ≡ Sampled)
+  pub counters-only : (counter : A) → Past (number counter) → (s : Status) → StatusReasons (number (byStatus refuse (refuse KIND) counter s)) s (s ≡ Sampled)
   unfolding rank
   counters-only counter onC =
-      told (λ s. s ≡ Sampled) (apart Broken Sampled refl) (apart Empty Sampled refl) (refuse KIND) counter
+      by-reasons (λ s. s ≡ Sampled) (apart Broken Sampled refl) (apart Empty Sampled refl) (refuse KIND) counter
       (rw (same KIND) (wrongly refl)) (right onC (apart Counter Sampled refl))
 
 -- ---- what each call may answer past KIND
 
-place-past : (p : ℤ) (r : Row) → Past (doneNumber (doneOf (placeRow p r)))
+pub place-past : (p : ℤ) (r : Row) → Past (changedNumber (placeRow p r))
 unfolding Past placeRow
-place-past p r = go (test (inRange p))
-  where
-    go : Tested (inRange p) → Past (doneNumber (doneOf (placeRow p r)))
-    go (yes i) = rw i (inl refl)
-    go (no i) = rw i (inr (lit< tt))
+place-past p r = after-either checked changedNumber KIND (inRange p) _ _ (inl refl) (inr (lit< tt))
 
 -- ---- each call: BROKEN exactly on a broken row, EMPTY exactly on an empty one, and KIND exactly on one of the kind that the call does not take
 
-abbrev changedNumber : Changed → ℕ
-changedNumber c = doneNumber (doneOf c)
-
 -- HEADLINE: preset takes both kinds.
-pub preset-reasons : (p : ℤ) (r : Row) → Told (changedNumber (presetRow p r)) (statusOf r) ⊥
+pub preset-reasons : (p : ℤ) (r : Row) → StatusReasons (changedNumber (presetRow p r)) (statusOf r) ⊥
 unfolding presetRow
 preset-reasons p r = both-kinds changedNumber Kept (λ e. refl) (placeRow p r) (placeRow p r) (place-past p r) (place-past p r) (statusOf r)
 
 -- HEADLINE: arm takes sampled rows.
-pub arm-reasons : (r : Row) → Told (changedNumber (armRow r)) (statusOf r) (statusOf r ≡ Counter)
+pub arm-reasons : (r : Row) → StatusReasons (changedNumber (armRow r)) (statusOf r) (statusOf r ≡ Counter)
 unfolding armRow Past
 arm-reasons r = sampled-only changedNumber Kept (λ e. refl) (To (rowOf (armAxis (axisOf r)))) (inl refl) (statusOf r)
 
 -- HEADLINE: acknowledge takes sampled rows.
-pub acknowledge-reasons : (r : Row) → Told (changedNumber (acknowledgeRow r)) (statusOf r) (statusOf r ≡ Counter)
+pub acknowledge-reasons : (r : Row) → StatusReasons (changedNumber (acknowledgeRow r)) (statusOf r) (statusOf r ≡ Counter)
 unfolding acknowledgeRow Past
 acknowledge-reasons r = sampled-only changedNumber Kept (λ e. refl) (To (rowOf (acknowledgeAxis (axisOf r)))) (inl refl) (statusOf r)
 
 -- HEADLINE: view takes both kinds.
-pub view-reasons : (r : Row) → Told (viewNumber (viewRow r)) (statusOf r) ⊥
+pub view-reasons : (r : Row) → StatusReasons (viewNumber (viewRow r)) (statusOf r) ⊥
 unfolding viewRow Past
 view-reasons r = let v = Shows (viewOf (axisOf r)) in both-kinds viewNumber Unseen (λ e. refl) v v (inl refl) (inl refl) (statusOf r)
 

@@ -23,6 +23,10 @@ abbrev pub doneNumber : Done → ℕ
 doneNumber Yes = 0
 doneNumber (Refused e) = numberOf e
 
+-- The number that is answered for what a call makes of the row, 0 where that is another row.
+abbrev pub changedNumber : Changed → ℕ
+changedNumber c = doneNumber (doneOf c)
+
 -- The layout number that the refusal carries, 0 where it carries none.
 abbrev pub doneFound : Done → ℕ
 doneFound Yes = 0

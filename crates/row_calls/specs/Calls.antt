@@ -15,6 +15,8 @@ use Rattle.axis_sound.specs.declared.Status.{Status}
 use Rattle.axis_sound.specs.declared.Status.the-variants.{Empty, Sampled, Counter, Broken}
 use Rattle.row_calls.specs.Change.{presetAxis, armAxis, acknowledgeAxis}
 use Rattle.row_calls.specs.Answer.{viewOf}
+use Rattle.row_calls.specs.declared.apply.Change.{Change}
+use Rattle.row_calls.specs.declared.apply.Change.the-variants.{Setup, Erase, Preset, Arm, Acknowledge}
 use Rattle.row_calls.specs.declared.answer.Changed.{Changed}
 use Rattle.row_calls.specs.declared.answer.Changed.the-variants.{To, Kept}
 use Rattle.row_calls.specs.declared.answer.Viewed.{Viewed}
@@ -82,3 +84,13 @@ acknowledgeRow r = byStatus Kept (To (rowOf (acknowledgeAxis (axisOf r)))) (Kept
 -- The answer of a view, on a sampled row and on a counter.
 unfoldable pub viewRow : Row → Viewed
 viewRow r = byStatus Unseen (Shows (viewOf (axisOf r))) (Shows (viewOf (axisOf r))) (statusOf r)
+
+-- ---- these calls as data
+
+-- What a call that makes another row makes of a row.
+abbrev pub changeRow : Change → Row → Changed
+changeRow (Setup kind depth width turn) = setupRow kind depth width turn
+changeRow Erase = eraseRow
+changeRow (Preset p) = presetRow p
+changeRow Arm = armRow
+changeRow Acknowledge = acknowledgeRow

@@ -2,4 +2,5 @@
 pub mod answer; // answer.rt: what a call makes of a row, and what it answers
 pub mod setup; // setup.rt: setup and erase
 pub mod change; // change.rt: preset, arm and acknowledge
+pub mod apply; // apply.rt: these five calls as data
 pub mod view; // view.rt: view

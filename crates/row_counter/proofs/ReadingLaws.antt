@@ -24,7 +24,7 @@ use Rattle.axis_sound.specs.declared.Status.the-variants.{Sampled, Counter}
 use Rattle.axis_sound.proofs.SoundLaws.{counter-gives}
 use Rattle.row_calls.specs.Change.{changed, Holds}
 use Rattle.row_calls.specs.Calls.{byStatus}
-use Rattle.row_calls.specs.Reasons.{Told}
+use Rattle.row_calls.specs.Reasons.{StatusReasons}
 use Rattle.row_calls.specs.declared.answer.Changed.the-variants.{To}
 use Rattle.row_calls.proofs.StatusLaws.{live}
 use Rattle.row_calls.proofs.ChangeLaws.{counter-moved, counter-holds, to-one, kept-not}
@@ -33,7 +33,7 @@ use Rattle.row_counter.specs.Reading.{readAxis, readingOf, readingRow, s
 
 -- ---- reasons
 
-reading-past : (w : ℕ) (W : ℤ) (x : ℕ) → Past (refusalIn (widened w W x))
+pub reading-past : (w : ℕ) (W : ℤ) (x : ℕ) → Past (refusalIn (widened w W x))
 unfolding Past
 reading-past w W x = go (verdict w W x)
   where
@@ -44,7 +44,7 @@ reading-past w W x = go (verdict w W x)
     go (at g p b l i e) = rw e (inl refl)
 
 -- HEADLINE: a reading takes counters.
-pub reading-reasons : (x : ℕ) (r : Row) → Told (refusalIn (readingRow x r)) (statusOf r) (statusOf r ≡ Sampled)
+pub reading-reasons : (x : ℕ) (r : Row) → StatusReasons (refusalIn (readingRow x r)) (statusOf r) (statusOf r ≡ Sampled)
 unfolding readingRow
 reading-reasons x r =
     let a = axisOf r in

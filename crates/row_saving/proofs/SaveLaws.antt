@@ -13,7 +13,9 @@ use Rattle.integers.proofs.Balance.{Tested, yes, no, test}
 use Rattle.position.specs.Position.{inRange, wordOf}
 use Rattle.position.proofs.PositionLaws.{word-low, word-high, position-in-range, position-word, word-position}
 use Rattle.refusal.specs.declared.Refusal.{Refusal}
-use Rattle.refusal.specs.declared.Refusal.the-variants.{Room as ROOM}
+use Rattle.refusal.specs.declared.Refusal.the-variants.{Kind as KIND, Room as ROOM}
+use Rattle.refusal.specs.Order.{checked}
+use Rattle.refusal.proofs.RefusalLaws.{after-either}
 use Rattle.axis.specs.Kind.{sampledKind}
 use Rattle.axis.specs.Config.{sampledConfig, counterConfig, goodConfig}
 use Rattle.axis.specs.Row.{axisOf, rowOf, fresh, freshAt, Words}
@@ -33,7 +35,7 @@ use Rattle.record.specs.declared.answer.Read.the-variants.{Accepted, Refused as
 use Rattle.record.specs.declared.answer.Written.the-variants.{Bytes, Refused as Unwritten}
 use Rattle.record.proofs.RecordLaws.{read-back, one-encoding, accepted-within, saved-front}
 use Rattle.row_calls.specs.Change.{changed, presetAxis, Holds}
-use Rattle.row_calls.specs.Reasons.{Told}
+use Rattle.row_calls.specs.Reasons.{StatusReasons}
 use Rattle.row_calls.specs.Calls.{andThen, placeRow, presetRow, setupRow}
 use Rattle.row_saving.specs.Saving.{savedOf, saveRow, savedIn, restoredBy, restoreRow}
 use Rattle.row_calls.specs.declared.answer.Changed.the-variants.{To, Kept}
@@ -174,17 +176,15 @@ saved-restore s b r q all e room = go (readAs s) refl
 
 -- ---- reasons
 
-save-past : (room : ℕ) (s : Saved) → Past (writtenNumber (savedAs room s))
+pub save-past : (room : ℕ) (s : Saved) → Past (writtenNumber (savedAs room s))
 unfolding Past savedAs
-save-past room s = go (test (within s)) (test (leb (length (recordOf s)) room))
-  where
-    go : Tested (within s) → Tested (leb (length (recordOf s)) room) → Past (writtenNumber (savedAs room s))
-    go (no g) t = rw g (inr (lit< tt))
-    go (yes g) (yes h) = rw (g, h) (inl refl)
-    go (yes g) (no h) = rw (g, h) (inr (lit< tt))
+save-past room s =
+    let size = length (recordOf s) in
+    let fitted = after-either checked writtenNumber KIND (leb size room) (Bytes size) (Unwritten ROOM) (inl refl) (inr (lit< tt)) in
+    after-either checked writtenNumber KIND (within s) _ _ fitted (inr (lit< tt))
 
 -- HEADLINE: save takes both kinds.
-pub save-reasons : (room : ℕ) (r : Row) → Told (writtenNumber (saveRow room r)) (statusOf r) ⊥
+pub save-reasons : (room : ℕ) (r : Row) → StatusReasons (writtenNumber (saveRow room r)) (statusOf r) ⊥
 unfolding saveRow
 save-reasons room r =
     let s = savedOf (axisOf r) in

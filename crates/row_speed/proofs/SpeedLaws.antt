@@ -20,7 +20,7 @@ use Rattle.axis.specs.declared.row.Row.{Row}
 use Rattle.axis_sound.specs.declared.Status.the-variants.{Sampled, Counter}
 use Rattle.axis_sound.proofs.SoundLaws.{sampled-gives}
 use Rattle.row_speed.specs.Speed.{signOf, spanOf, speedOf, speedRow}
-use Rattle.row_calls.specs.Reasons.{Told}
+use Rattle.row_calls.specs.Reasons.{StatusReasons}
 use Rattle.row_calls.proofs.StatusLaws.{live}
 use Rattle.row_calls.proofs.ReasonLaws.{Past, sampled-only}
 
@@ -94,7 +94,7 @@ speed-past rate a = go (test (goodRate rate)) (test (eqb (a .period) 0))
     go (yes g) (no z) = rw (g, z) (count-past (signOf (a .direction)) (spanOf a) rate)
 
 -- HEADLINE: speed by period takes sampled rows.
-pub speed-reasons : (rate : ℕ) (r : Row) → Told (speedRefusal (speedRow rate r)) (statusOf r) (statusOf r ≡ Counter)
+pub speed-reasons : (rate : ℕ) (r : Row) → StatusReasons (speedRefusal (speedRow rate r)) (statusOf r) (statusOf r ≡ Counter)
 unfolding speedRow
 speed-reasons rate r = sampled-only speedRefusal Refused (λ e. refl) (speedOf rate (axisOf r)) (speed-past rate (axisOf r)) (statusOf r)
 

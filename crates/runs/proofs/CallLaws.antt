@@ -11,7 +11,8 @@ use lib.ListN.{length}
 use Rattle.refusal.specs.declared.Refusal.{Refusal}
 use Rattle.axis.specs.declared.row.Row.{Row}
 use Rattle.row_calls.specs.Answer.{doneOf}
-use Rattle.row_calls.specs.Calls.{leftBy}
+use Rattle.row_calls.specs.Calls.{leftBy, changeRow}
+use Rattle.row_saving.specs.Saving.{restoreRow}
 use Rattle.row_counter.specs.Reading.{readingRow, storedRow, readRow}
 use Rattle.reckon.specs.declared.Reckoned.{Reckoned}
 use Rattle.reckon.specs.declared.Reckoned.the-variants.{Number, Refused as Unreckoned}
@@ -21,13 +22,13 @@ use Rattle.table_rows.specs.Table.{axesIn, rowAt, setRow}
 use Rattle.table_rows.specs.Located.{located, onFound}
 use Rattle.table_rows.specs.declared.Located.{Located}
 use Rattle.table_rows.specs.declared.Located.the-variants.{At, Refused}
-use Rattle.table_rows.proofs.TableLaws.{axes-fit, axes-only, length-setRow, row-same, row-other, table-ext}
+use Rattle.table_rows.proofs.RowsLaws.{axes-fit, axes-only, length-setRow, row-same, row-other, table-ext}
 use Rattle.table_rows.proofs.LocatedLaws.{found-at, found}
 use Rattle.table_port.proofs.PortLaws.{sample-length}
 use Rattle.table.specs.Call.{ruled, tableAfter}
 use Rattle.table.proofs.CallLaws.{makes-spares}
 use Rattle.runs.specs.Told.{refused, toldDone, toldNumber}
-use Rattle.runs.specs.Op.{Look, Op, changes, reading, looks, changeRow, ruleOf, answerOf, rowAfter, Refused as Unasked}
+use Rattle.runs.specs.Op.{Look, Op, changes, restore, reading, looks, ruleOf, answerOf, rowAfter, Refused as Unasked}
 use Rattle.runs.specs.Run.{Call, port, names, tableBy, tableNext, answerIn, heardOf}
 
 -- ---- the row
@@ -46,6 +47,7 @@ unread-stays r (Number z) e q = absurd (let z : _≡_ {A = ℕ} 0 1 = cc in omeg
 pub refused-after : (r : Row) (o : Op) (e : Refusal) → Unasked r o e → rowAfter r o ≡ r
 unfolding rowAfter ruleOf answerOf readRow
 refused-after r (changes c) e q = undone-stays r (changeRow c r) e q
+refused-after r (restore bytes) e q = undone-stays r (restoreRow bytes r) e q
 refused-after r (reading x) e q = unread-stays r (readingRow x r) e q
 refused-after r (looks l) e q = refl
 

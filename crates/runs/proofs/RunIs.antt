@@ -1,4 +1,5 @@
--- A call of a run is what the contract of that call promises: port: `Samples`, table: `Makes`, `Reads`, `Saves`, `viewedIn`, `speedIn`.
+-- A call of a run is what the contract of that call promises: `Samples` of table_port; `Makes`, `ReadingMakes`, `SaveMakes`,
+-- `viewedIn` and `speedIn` of table.
 use Prim.Native.Nat.{ℕ}
 use native.Mathlib.Omega.{arith}
 use mathlib.Core.Path.{_≡_, refl, sym, ap, _∙_}
@@ -16,10 +17,12 @@ use Rattle.axis.specs.declared.row.Row.{Row}
 use Rattle.record.specs.declared.answer.Written.{Written}
 use Rattle.record.specs.declared.answer.Written.the-variants.{Refused as Unwritten}
 use Rattle.row_calls.specs.Answer.{doneOf}
-use Rattle.row_calls.specs.Calls.{setupRow, eraseRow, presetRow, armRow, acknowledgeRow, viewRow}
+use Rattle.row_calls.specs.Calls.{changeRow, setupRow, eraseRow, presetRow, armRow, acknowledgeRow, viewRow}
 use Rattle.row_saving.specs.Saving.{saveRow, savedIn, restoreRow}
 use Rattle.row_speed.specs.Speed.{speedRow}
 use Rattle.row_counter.specs.Reading.{readingRow}
+use Rattle.row_calls.specs.declared.apply.Change.{Change}
+use Rattle.row_calls.specs.declared.apply.Change.the-variants.{Setup, Erase, Preset, Arm, Acknowledge}
 use Rattle.row_calls.specs.declared.answer.Changed.{Changed}
 use Rattle.row_calls.specs.declared.answer.Changed.the-variants.{Kept}
 use Rattle.row_calls.specs.declared.answer.Done.{Done}
@@ -31,9 +34,9 @@ use Rattle.table_rows.specs.declared.Located.{Located}
 use Rattle.table_rows.specs.declared.Located.the-variants.{At, Refused}
 use Rattle.table_port.specs.Port.{Samples}
 use Rattle.table_port.specs.declared.Sampled.{Sampled}
-use Rattle.table.specs.Call.{Makes, viewedIn, Reads, speedIn, Saves}
+use Rattle.table.specs.Call.{Makes, viewedIn, ReadingMakes, speedIn, SaveMakes}
 use Rattle.runs.specs.Told.{Told, refused, toldDone, toldView, toldNumber, toldSpeed, toldBytes}
-use Rattle.runs.specs.Op.{Change, setup, erase, preset, arm, acknowledge, restore, view, speed, save, changes, reading, looks, changeRow, lookRow, ruleOf, answerOf}
+use Rattle.runs.specs.Op.{Op, view, speed, save, changes, restore, reading, looks, lookRow, ruleOf, answerOf}
 use Rattle.runs.specs.Run.{port, tableBy, tableNext, bitsOf, answerIn, heardOf, Says}
 use Rattle.runs.proofs.CallLaws.{look-keeps}
 
@@ -72,48 +75,49 @@ unfolding tableNext heardOf
 sample-is w = (w .table, λ k. ap (bitsOf k) (w .answer))
 
 module _ {t u : List ℕ} {k : ℕ} where
-  -- The six calls that answer only that they were done.
-  change-is : (c : Change) {a : Done} → Makes (changeRow c) t k u a ↔ Says (changes c) t k u (toldDone a)
-  unfolding tableNext tableBy answerIn answerOf ruleOf
-  change-is c {a} =
-      let told = tell-found (λ (d : Changed). toldDone (doneOf d)) Kept (changeRow c) (λ e. refl) (located t k) in (
-        (λ w. record { table = w .table; told = ap toldDone (w .answer) ∙ told }),
-        (λ s. record { answer = done-only a _ (s .told ∙ sym told); table = s .table }),
+  -- A call that answers only that it was done, by its rule.
+  done-is : (o : Op) (rule : Row → Changed) → ruleOf o ≡ rule → answerOf o ≡ (λ r. toldDone (doneOf (rule r))) → {a : Done} →
+      Makes rule t k u a ↔ Says o t k u (toldDone a)
+  unfolding tableNext tableBy answerIn
+  done-is o rule f g {a} =
+      let told = tell-found (λ (d : Changed). toldDone (doneOf d)) Kept rule (λ e. refl) (located t k) in (
+        (λ w. record { table = rw f (w .table); told = rw g (ap toldDone (w .answer) ∙ told) }),
+        (λ s. record { answer = done-only a _ (rw g at (s .told) ∙ sym told); table = rw f at (s .table) }),
       )
+
+  -- The five that are one code enum.
+  change-is : (c : Change) {a : Done} → Makes (changeRow c) t k u a ↔ Says (changes c) t k u (toldDone a)
+  unfolding ruleOf answerOf
+  change-is c = done-is (changes c) (changeRow c) refl refl
 
   -- HEADLINE: setup.
   pub setup-is : (kind depth width turn : ℕ) {a : Done} →
-      Makes (setupRow kind depth width turn) t k u a ↔ Says (changes (setup kind depth width turn)) t k u (toldDone a)
-  unfolding changeRow
-  setup-is kind depth width turn = change-is (setup kind depth width turn)
+      Makes (setupRow kind depth width turn) t k u a ↔ Says (changes (Setup kind depth width turn)) t k u (toldDone a)
+  setup-is kind depth width turn = change-is (Setup kind depth width turn)
 
   -- HEADLINE: erase.
-  pub erase-is : {a : Done} → Makes eraseRow t k u a ↔ Says (changes erase) t k u (toldDone a)
-  unfolding changeRow
-  erase-is = change-is erase
+  pub erase-is : {a : Done} → Makes eraseRow t k u a ↔ Says (changes Erase) t k u (toldDone a)
+  erase-is = change-is Erase
 
   -- HEADLINE: preset.
-  pub preset-is : (p : ℤ) {a : Done} → Makes (presetRow p) t k u a ↔ Says (changes (preset p)) t k u (toldDone a)
-  unfolding changeRow
-  preset-is p = change-is (preset p)
+  pub preset-is : (p : ℤ) {a : Done} → Makes (presetRow p) t k u a ↔ Says (changes (Preset p)) t k u (toldDone a)
+  preset-is p = change-is (Preset p)
 
   -- HEADLINE: arm.
-  pub arm-is : {a : Done} → Makes armRow t k u a ↔ Says (changes arm) t k u (toldDone a)
-  unfolding changeRow
-  arm-is = change-is arm
+  pub arm-is : {a : Done} → Makes armRow t k u a ↔ Says (changes Arm) t k u (toldDone a)
+  arm-is = change-is Arm
 
   -- HEADLINE: acknowledge.
-  pub acknowledge-is : {a : Done} → Makes acknowledgeRow t k u a ↔ Says (changes acknowledge) t k u (toldDone a)
-  unfolding changeRow
-  acknowledge-is = change-is acknowledge
+  pub acknowledge-is : {a : Done} → Makes acknowledgeRow t k u a ↔ Says (changes Acknowledge) t k u (toldDone a)
+  acknowledge-is = change-is Acknowledge
 
   -- HEADLINE: restore.
-  pub restore-is : (bytes : List ℕ) {a : Done} → Makes (restoreRow bytes) t k u a ↔ Says (changes (restore bytes)) t k u (toldDone a)
-  unfolding changeRow
-  restore-is bytes = change-is (restore bytes)
+  pub restore-is : (bytes : List ℕ) {a : Done} → Makes (restoreRow bytes) t k u a ↔ Says (restore bytes) t k u (toldDone a)
+  unfolding ruleOf answerOf
+  restore-is bytes = done-is (restore bytes) (restoreRow bytes) refl refl
 
   -- HEADLINE: a reading.
-  pub reading-is : (x : ℕ) {a : Reckoned} → Reads x t k u a ↔ Says (reading x) t k u (toldNumber a)
+  pub reading-is : (x : ℕ) {a : Reckoned} → ReadingMakes x t k u a ↔ Says (reading x) t k u (toldNumber a)
   unfolding tableNext tableBy answerIn answerOf ruleOf
   reading-is x {a} =
       let told = tell-found toldNumber Unreckoned (readingRow x) (λ e. refl) (located t k) in (
@@ -140,7 +144,7 @@ module _ {t u : List ℕ} {k : ℕ} where
       )
 
 -- HEADLINE: a save, which leaves the table: b is what the buffer holds before it, d after it.
-pub save-is : {t : List ℕ} {k : ℕ} {b d : List ℕ} {a : Written} → Saves t k b d a → Says (looks (save b)) t k t (toldBytes a d)
+pub save-is : {t : List ℕ} {k : ℕ} {b d : List ℕ} {a : Written} → SaveMakes t k b d a → Says (looks (save b)) t k t (toldBytes a d)
 unfolding tableNext answerIn answerOf lookRow
 save-is {t} {k} {b} {d} {a} w = record { table = sym (look-keeps t k (save b)); told = rw (w .answer, w .buffer) (go (located t k)) }
   where

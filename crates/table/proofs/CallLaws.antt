@@ -21,10 +21,10 @@ use Rattle.row_calls.specs.declared.answer.Done.{Done}
 use Rattle.row_calls.specs.declared.answer.Done.the-variants.{Yes, Refused as Undone}
 use Rattle.table_rows.specs.Table.{axesIn, rowAt, setRow}
 use Rattle.table_rows.specs.Located.{located, onFound}
-use Rattle.table.specs.Call.{ruled, tableAfter, Spares, Commits, Makes, readIn, Reads, Saves}
+use Rattle.table.specs.Call.{ruled, tableAfter, Spares, Commits, Makes, readIn, ReadingMakes, SaveMakes}
 use Rattle.table_rows.specs.declared.Located.{Located}
 use Rattle.table_rows.specs.declared.Located.the-variants.{At, Refused}
-use Rattle.table_rows.proofs.TableLaws.{length-setRow, word-other, row-other, row-same}
+use Rattle.table_rows.proofs.RowsLaws.{length-setRow, word-other, row-other, row-same}
 use Rattle.table_rows.proofs.LocatedLaws.{found, found-at, found-fits}
 
 -- ---- the ways out of a call
@@ -36,28 +36,31 @@ module _ (rule : Row → Changed) (t : List ℕ) (k : ℕ) where
   not-found e q = record { answer = rw q; table = rw q }
 
   -- Where one was found, the call does what its rule says of it.
-  pub found-makes : (r : Row) (c : Changed) {u : List ℕ} {a : Done} → located t k ≡ At r → c ≡ rule r → Commits c t k u a → Makes rule t k u a
+  pub found-makes : (r : Row) (c : Changed) {u : List ℕ} {a : Done} →
+      located t k ≡ At r → c ≡ rule r → Commits c t k u a → Makes rule t k u a
   found-makes r c {u} {a} q e w =
       let p : c ≡ ruled rule t k = e ∙ rw q in
       record { answer = w .answer ∙ ap doneOf p; table = w .table ∙ ap (tableAfter t k) p }
 
 module _ (x : ℕ) (t : List ℕ) (k : ℕ) where
   -- A reading of an axis that is not there.
-  pub not-read : (e : Refusal) → located t k ≡ Refused e → Reads x t k t (Unreckoned e)
+  pub not-read : (e : Refusal) → located t k ≡ Refused e → ReadingMakes x t k t (Unreckoned e)
   unfolding tableAfter
   not-read e q = record { answer = rw q; table = rw q }
 
   -- A reading of one that is.
-  pub found-reads : (r : Row) (c : Changed) {u : List ℕ} {n : Reckoned} {a : Done} → located t k ≡ At r → n ≡ readingRow x r → c ≡ readRow x r → Commits c t k u a → Reads x t k u n
+  pub found-reads : (r : Row) (c : Changed) {u : List ℕ} {n : Reckoned} {a : Done} →
+      located t k ≡ At r → n ≡ readingRow x r → c ≡ readRow x r → Commits c t k u a → ReadingMakes x t k u n
   found-reads r c q p e w = record { answer = p ∙ rw q; table = found-makes (readRow x) t k r c q e w .table }
 
 module _ (t : List ℕ) (k : ℕ) (b : List ℕ) where
   -- A save of an axis that is not there.
-  pub not-saved : (e : Refusal) → located t k ≡ Refused e → Saves t k b b (Unwritten e)
+  pub not-saved : (e : Refusal) → located t k ≡ Refused e → SaveMakes t k b b (Unwritten e)
   not-saved e q = record { answer = rw q; buffer = rw q }
 
   -- A save of one that is.
-  pub found-saves : (r : Row) {d : List ℕ} {a : Written} → located t k ≡ At r → a ≡ saveRow (length b) r → d ≡ savedIn b r → Saves t k b d a
+  pub found-saves : (r : Row) {d : List ℕ} {a : Written} →
+      located t k ≡ At r → a ≡ saveRow (length b) r → d ≡ savedIn b r → SaveMakes t k b d a
   found-saves r q p e = record { answer = p ∙ rw q; buffer = e ∙ rw q }
 
 -- ---- the named row changes, and no other
@@ -68,7 +71,8 @@ pub replaced : (rule : Row → Changed) (t : List ℕ) (k : ℕ) (r : Row) → r
 unfolding tableAfter
 replaced rule t k r = go (located t k) refl
   where
-    go : (l : Located) → located t k ≡ l → onFound Kept rule l ≡ To r → (k < axesIn (length t)) × (rule (rowAt t k) ≡ To r) × (rowAt (setRow t k r) k ≡ r)
+    go : (l : Located) → located t k ≡ l → onFound Kept rule l ≡ To r →
+        (k < axesIn (length t)) × (rule (rowAt t k) ≡ To r) × (rowAt (setRow t k r) k ≡ r)
     go (Refused e) q p = absurd (let z : _≡_ {A = ℕ} 0 1 = cc in omega arith)
     go (At s) q p =
         let f = found t k s q in
@@ -116,16 +120,16 @@ stored x t k = go (located t k) refl
 
 module _ (x : ℕ) {t u : List ℕ} {k : ℕ} where
   -- HEADLINE: a reading changes the named row alone.
-  pub reads-spares : {a : Reckoned} → Reads x t k u a → Spares t k u
+  pub reads-spares : {a : Reckoned} → ReadingMakes x t k u a → Spares t k u
   reads-spares w = rw (w .table) (spares t k (ruled (readRow x) t k))
 
   -- HEADLINE: where it is refused, every word stays.
-  pub unread-keeps : (e : Refusal) → Reads x t k u (Unreckoned e) → u ≡ t
+  pub unread-keeps : (e : Refusal) → ReadingMakes x t k u (Unreckoned e) → u ≡ t
   unfolding tableAfter storedRow
   unread-keeps e w = w .table ∙ rw (stored x t k, ← (w .answer))
 
   -- HEADLINE: where it is accepted, the position that is answered is stored in the named row.
-  pub read-stores : (p : ℤ) → Reads x t k u (Number p) →
+  pub read-stores : (p : ℤ) → ReadingMakes x t k u (Number p) →
       (k < axesIn (length t)) × (readingRow x (rowAt t k) ≡ Number p) × (rowAt u k ≡ rowOf (readAxis p (axisOf (rowAt t k))))
   unfolding storedRow
   read-stores p w =

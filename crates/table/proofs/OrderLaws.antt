@@ -1,26 +1,26 @@
 -- The order of the reasons in the calls that name one axis: document 01, "Reasons for saying no".
 use Prim.Native.Nat.{ℕ, _*_, _<_, _≤_}
+use native.Mathlib.Nat.{le-refl}
 use native.Mathlib.Omega.{arith}
-use mathlib.Core.Path.{_≡_, refl, sym, ap}
-use mathlib.Core.Logic.{_≢_, _↔_, inl, inr, ⊎-elim}
-use mathlib.Core.Bool.{Bool, true, false, cond}
+use mathlib.Core.Path.{_≡_, refl, sym, ap, _∙_}
+use mathlib.Core.Logic.{_≢_, _↔_, inl, inr}
+use mathlib.Core.Bool.{Bool, true, false, cond, _&&_}
 use mathlib.Core.List.{List}
-use lib.Dec.{eqb, leb, ltb, lit<}
+use lib.Dec.{eqb, ltb, lit<, lit≤}
 use lib.IntN.{ℤ}
 use lib.ListN.{length}
 use borrow.Author.Tests.{eqb-true, eqb-false, ltb-true, ltb-false}
-use Rattle.position.specs.Position.{inRange, positionOf}
+use Rattle.position.specs.Position.{positionOf}
 use Rattle.refusal.specs.Refusal.{numberOf}
+use Rattle.refusal.specs.Order.{checked, placeIn, After}
+use Rattle.refusal.proofs.RefusalLaws.{after-not, after-sooner, after-either}
 use Rattle.refusal.specs.declared.Refusal.{Refusal}
-use Rattle.refusal.specs.declared.Refusal.the-variants.{Length, Axis, Broken as BROKEN, Empty as EMPTY, NoPeriod, Room}
+use Rattle.refusal.specs.declared.Refusal.the-variants.{Length, Axis, Broken as BROKEN, Empty as EMPTY, Kind as KIND, NoPeriod}
 use Rattle.reckon.specs.Reckoned.{refusalIn}
-use Rattle.reckon.specs.Nearest.{Verdict, value, half, range, at}
 use Rattle.reckon.specs.Speed.{speedRefusal, goodRate, goodSpeed, speedByCount}
-use Rattle.reckon.specs.Widening.{widened}
-use Rattle.reckon.specs.declared.Reckoned.{Reckoned}
 use Rattle.reckon.specs.declared.Reckoned.the-variants.{Refused as Unreckoned}
 use Rattle.reckon.specs.declared.speed.Speed.the-variants.{Refused as Unsped}
-use Rattle.reckon.proofs.NearestLaws.{verdict}
+use Rattle.axis.specs.Limit.{mostAxes}
 use Rattle.axis.specs.Config.{goodConfig}
 use Rattle.axis.specs.Row.{axisOf}
 use Rattle.axis_sound.specs.Sound.{statusOf}
@@ -29,13 +29,12 @@ use Rattle.axis_sound.specs.declared.Status.{Status}
 use Rattle.axis_sound.specs.declared.Status.the-variants.{Empty, Sampled, Counter, Broken}
 use Rattle.record.specs.Answer.{writtenNumber}
 use Rattle.record.specs.Order.{Judged, other-layout, bad-nine, bad-kind, bad-rest, bad-value, all-good}
-use Rattle.record.specs.Record.{readAs, within, recordOf, savedAs}
+use Rattle.record.specs.Record.{readAs}
 use Rattle.record.specs.declared.answer.Read.{Read}
-use Rattle.record.specs.declared.answer.Saved.{Saved}
-use Rattle.record.specs.declared.answer.Written.the-variants.{Bytes, Refused as Unwritten}
+use Rattle.record.specs.declared.answer.Written.the-variants.{Refused as Unwritten}
 use Rattle.record.proofs.OrderLaws.{exactly}
-use Rattle.row_calls.specs.Answer.{doneOf, doneNumber, viewNumber}
-use Rattle.row_calls.specs.Calls.{byStatus, setupRow, eraseRow, placeRow, presetRow, armRow, acknowledgeRow, viewRow}
+use Rattle.row_calls.specs.Answer.{doneOf, doneNumber, changedNumber, viewNumber}
+use Rattle.row_calls.specs.Calls.{byStatus, setupRow, eraseRow, presetRow, armRow, acknowledgeRow, viewRow}
 use Rattle.row_saving.specs.Saving.{savedOf, saveRow, restoreRow, restoredBy}
 use Rattle.row_speed.specs.Speed.{signOf, spanOf, speedOf, speedRow}
 use Rattle.row_counter.specs.Reading.{readingRow}
@@ -43,12 +42,15 @@ use Rattle.row_calls.specs.declared.answer.Changed.{Changed}
 use Rattle.row_calls.specs.declared.answer.Changed.the-variants.{Kept}
 use Rattle.row_calls.specs.declared.answer.Done.{Done}
 use Rattle.row_calls.specs.declared.answer.Viewed.the-variants.{Refused as Unseen}
+use Rattle.row_calls.proofs.ReasonLaws.{Past, place-past}
+use Rattle.row_saving.proofs.SaveLaws.{save-past}
+use Rattle.row_counter.proofs.ReadingLaws.{reading-past}
 use Rattle.table_rows.specs.Table.{axesIn, rowAt}
 use Rattle.table_rows.specs.Located.{located, onFound}
 use Rattle.table.specs.Call.{Makes, viewedIn, readIn, speedIn, saveIn}
-use Rattle.table.specs.Order.{After, changedNumber, Ordered}
+use Rattle.table.specs.Order.{Ordered}
 use Rattle.table_rows.specs.declared.Located.the-variants.{At, Refused}
-use Rattle.table_rows.proofs.TableLaws.{axes-of, length-wrong}
+use Rattle.table_rows.proofs.RowsLaws.{axes-of, length-wrong}
 use Rattle.table_rows.proofs.LocatedLaws.{found-none, found-past, found-at}
 
 -- ---- one law for every call
@@ -70,85 +72,98 @@ search t k = go (eqb (axesIn (length t)) 0) refl (ltb k (axesIn (length t))) ref
         let l = ltb-false _ _ h in
         past e l (sym (found-past t k e l))
 
-module _ {A : Type 0} (number : A → ℕ) (refuse : Refusal → A) (same : (e : Refusal) → number (refuse e) ≡ numberOf e) (say : Row → A) (t : List ℕ) (k : ℕ) where
-  -- HEADLINE: a call whose own rule gives only later reasons says LENGTH and AXIS exactly where their lines do.
-  pub in-order : ((r : Row) → After Axis (number (say r))) → Ordered number say t k (onFound refuse say (located t k))
-  in-order late = go (search t k)
-    where
-      own-late : (r : Row) (n : ℕ) → n ≤ 2 → 0 < n → number (say r) ≡ n → ⊥
-      own-late r n h o e = ⊎-elim (λ z. omega arith) (λ l. omega arith) (late r)
+module _ {A : Type 0} (number : A → ℕ) (refuse : Refusal → A) (same : (e : Refusal) → number (refuse e) ≡ numberOf e)
+    (say : Row → A) (t : List ℕ) (k : ℕ) where
+  -- A call that is refused for want of a row is not refused for another reason.
+  only : (e f : Refusal) → numberOf e ≢ numberOf f → located t k ≡ Refused e → number (onFound refuse say (located t k)) ≢ numberOf f
+  only e f n q w = n (sym (same e) ∙ rw q at w)
 
+  -- HEADLINE: a call whose own rule gives only later reasons, in an order with LENGTH before AXIS, says both exactly where their lines do.
+  pub by-order : (order : List Refusal) → placeIn order (numberOf Length) ≤ placeIn order (numberOf Axis) →
+      ((r : Row) → After order Axis (number (say r))) → Ordered number say t k (onFound refuse say (located t k))
+  by-order order first late = go (search t k)
+    where
       go : Search t k → Ordered number say t k (onFound refuse say (located t k))
       go (none z q) = record {
         slice = (λ _. z, λ _. rw q (same Length));
-        named = (λ n. absurd (let e : number (refuse Length) ≡ 2 = rw q at n in omega (arith, same Length)), λ h. absurd (h .0 z));
+        named = (λ n. absurd (only Length Axis (λ e. omega arith) q n), λ h. absurd (h .0 z));
         own = λ h. absurd (omega arith);
       }
       go (past z h q) = record {
-        slice = (λ n. absurd (let e : number (refuse Axis) ≡ 1 = rw q at n in omega (arith, same Axis)), λ e. absurd (z e));
+        slice = (λ n. absurd (only Axis Length (λ e. omega arith) q n), λ e. absurd (z e));
         named = (λ _. (z, h), λ _. rw q (same Axis));
         own = λ l. absurd (omega arith);
       }
       go (there l q) = record {
-        slice = (λ n. absurd (own-late (rowAt t k) 1 (omega arith) (omega arith) (rw q at n)), λ z. absurd (omega arith));
-        named = (λ n. absurd (own-late (rowAt t k) 2 (omega arith) (omega arith) (rw q at n)), λ h. absurd (omega (arith, h .1)));
+        slice = (λ n. absurd (after-not order Axis Length first (late (rowAt t k)) (rw q at n)), λ z. absurd (omega arith));
+        named = (λ n. absurd (after-not order Axis Axis (le-refl _) (late (rowAt t k)) (rw q at n)), λ h. absurd (omega (arith, h .1)));
         own = λ _. rw q;
       }
 
+  -- HEADLINE: so does a call that checks them in the order of all reasons.
+  pub in-order : ((r : Row) → After checked Axis (number (say r))) → Ordered number say t k (onFound refuse say (located t k))
+  in-order = by-order checked (lit≤ tt)
+
   -- HEADLINE: a call that takes any row is never refused as BROKEN or EMPTY.
-  pub any-row : ((r : Row) → After EMPTY (number (say r))) →
+  pub any-row : ((r : Row) → After checked EMPTY (number (say r))) →
       (number (onFound refuse say (located t k)) ≢ numberOf BROKEN) × (number (onFound refuse say (located t k)) ≢ numberOf EMPTY)
-  any-row late = (never 3 (omega arith) (omega arith), never 4 (omega arith) (omega arith))
+  any-row late = (never BROKEN (lit≤ tt) (λ e. omega arith) (λ e. omega arith), never EMPTY (lit≤ tt) (λ e. omega arith) (λ e. omega arith))
     where
-      never : (n : ℕ) → 2 < n → n ≤ 4 → number (onFound refuse say (located t k)) ≢ n
-      never n o h e = go (search t k)
+      never : (f : Refusal) → placeIn checked (numberOf f) ≤ placeIn checked (numberOf EMPTY) →
+          numberOf Length ≢ numberOf f → numberOf Axis ≢ numberOf f → number (onFound refuse say (located t k)) ≢ numberOf f
+      never f h a b e = go (search t k)
         where
           go : Search t k → ⊥
-          go (none z q) = let w : number (refuse Length) ≡ n = rw q at e in omega (arith, same Length)
-          go (past z p q) = let w : number (refuse Axis) ≡ n = rw q at e in omega (arith, same Axis)
-          go (there l q) = let w : number (say (rowAt t k)) ≡ n = rw q at e in ⊎-elim (λ z. omega arith) (λ m. omega arith) (late (rowAt t k))
+          go (none z q) = only Length f a q e
+          go (past z p q) = only Axis f b q e
+          go (there l q) = after-not checked EMPTY f h (late (rowAt t k)) (rw q at e)
 
 module _ {A : Type 0} {number : A → ℕ} {say : Row → A} {t : List ℕ} {k : ℕ} {a : A} (o : Ordered number say t k a) where
-  -- HEADLINE: so LENGTH is exactly for a slice that is not 4n words, n from 1 to 16.
-  pub length-line : (number a ≡ numberOf Length) ↔ ((n : ℕ) → 1 ≤ n → n ≤ 16 → length t ≢ n * 4)
+  -- HEADLINE: so LENGTH is exactly for a slice that is not 4n words, n from 1 to the limit.
+  pub length-line : (number a ≡ numberOf Length) ↔ ((n : ℕ) → 1 ≤ n → n ≤ mostAxes → length t ≢ n * 4)
   length-line = (λ e. length-wrong (length t) .0 (o .slice .0 e), λ h. o .slice .1 (length-wrong (length t) .1 h))
 
   -- HEADLINE: and AXIS, with such a slice, exactly for a number of n or more.
-  pub axis-line : (n : ℕ) → 1 ≤ n → n ≤ 16 → length t ≡ n * 4 → (number a ≡ numberOf Axis) ↔ (n ≤ k)
+  pub axis-line : (n : ℕ) → 1 ≤ n → n ≤ mostAxes → length t ≡ n * 4 → (number a ≡ numberOf Axis) ↔ (n ≤ k)
   axis-line n some most e =
       let held : axesIn (length t) ≡ n = rw e (axes-of n most) in
       (λ h. omega (arith, o .named .0 h .1), λ h. o .named .1 ((λ z. let far : ⊥ = omega arith in far), omega arith))
 
 -- ---- each call's own reasons
 
-module _ {A : Type 0} (number : A → ℕ) (e : Refusal) where
-  -- A choice between two answers with later reasons is one.
-  either : (b : Bool) (p q : A) → After e (number p) → After e (number q) → After e (number (cond b p q))
-  either true p q x y = x
-  either false p q x y = y
+-- A choice between two answers with later reasons is one.
+abbrev either : {A : Type 0} (number : A → ℕ) (e : Refusal) (b : Bool) (p q : A) →
+    After checked e (number p) → After checked e (number q) → After checked e (number (cond b p q))
+either = after-either checked
 
 -- A call that takes sound rows that are not empty: BROKEN and EMPTY are later than AXIS, and so is what follows.
-by-status : {A : Type 0} (number : A → ℕ) (refuse : Refusal → A) (same : (e : Refusal) → number (refuse e) ≡ numberOf e) (sampled counter : A) →
-    After Axis (number sampled) → After Axis (number counter) → (s : Status) → After Axis (number (byStatus refuse sampled counter s))
+by-status : {A : Type 0} (number : A → ℕ) (refuse : Refusal → A) (same : (e : Refusal) → number (refuse e) ≡ numberOf e) →
+    (sampled counter : A) → After checked Axis (number sampled) → After checked Axis (number counter) → (s : Status) →
+    After checked Axis (number (byStatus refuse sampled counter s))
 by-status number refuse same a b x y Broken = inr (rw (same BROKEN) (lit< tt))
 by-status number refuse same a b x y Empty = inr (rw (same EMPTY) (lit< tt))
 by-status number refuse same a b x y Sampled = x
 by-status number refuse same a b x y Counter = y
 
+-- What comes after KIND comes after AXIS.
+late : {n : ℕ} → Past n → After checked Axis n
+unfolding Past
+late = after-sooner checked KIND Axis (lit≤ tt)
+
 -- Every number that a row's own rule answers is done or comes after AXIS; setup, erase and restore come after EMPTY too.
-pub setup-late : (kind depth width turn : ℕ) (r : Row) → After EMPTY (changedNumber (setupRow kind depth width turn r))
+pub setup-late : (kind depth width turn : ℕ) (r : Row) → After checked EMPTY (changedNumber (setupRow kind depth width turn r))
 unfolding setupRow
 setup-late kind depth width turn r = either changedNumber EMPTY (goodConfig kind depth width turn) _ _ (inl refl) (inr (lit< tt))
 
-pub erase-late : (r : Row) → After EMPTY (changedNumber (eraseRow r))
+pub erase-late : (r : Row) → After checked EMPTY (changedNumber (eraseRow r))
 unfolding eraseRow
 erase-late r = inl refl
 
-pub restore-late : (s : List ℕ) (r : Row) → After EMPTY (changedNumber (restoreRow s r))
+pub restore-late : (s : List ℕ) (r : Row) → After checked EMPTY (changedNumber (restoreRow s r))
 unfolding restoreRow restoredBy
 restore-late s r = go (readAs s) (exactly s (readAs s) .0 refl)
   where
-    go : (a : Read) → Judged s a → After EMPTY (changedNumber (restoredBy a))
+    go : (a : Read) → Judged s a → After checked EMPTY (changedNumber (restoredBy a))
     go a (other-layout o e) = rw e (inr (lit< tt))
     go a (bad-nine o n e) = rw e (inr (lit< tt))
     go a (bad-kind n k e) = rw e (inr (lit< tt))
@@ -156,44 +171,33 @@ restore-late s r = go (readAs s) (exactly s (readAs s) .0 refl)
     go a (bad-value n k l v e) = rw e (inr (lit< tt))
     go a (all-good n k l v e) = rw e (inl refl)
 
-pub preset-late : (p : ℤ) (r : Row) → After Axis (changedNumber (presetRow p r))
-unfolding presetRow placeRow
-preset-late p r =
-    let place : After Axis (changedNumber (placeRow p r)) = either changedNumber Axis (inRange p) _ _ (inl refl) (inr (lit< tt)) in
-    by-status changedNumber Kept (λ e. refl) _ _ place place (statusOf r)
+pub preset-late : (p : ℤ) (r : Row) → After checked Axis (changedNumber (presetRow p r))
+unfolding presetRow
+preset-late p r = by-status changedNumber Kept (λ e. refl) _ _ (late (place-past p r)) (late (place-past p r)) (statusOf r)
 
-pub arm-late : (r : Row) → After Axis (changedNumber (armRow r))
+pub arm-late : (r : Row) → After checked Axis (changedNumber (armRow r))
 unfolding armRow
 arm-late r = by-status changedNumber Kept (λ e. refl) _ _ (inl refl) (inr (lit< tt)) (statusOf r)
 
-pub acknowledge-late : (r : Row) → After Axis (changedNumber (acknowledgeRow r))
+pub acknowledge-late : (r : Row) → After checked Axis (changedNumber (acknowledgeRow r))
 unfolding acknowledgeRow
 acknowledge-late r = by-status changedNumber Kept (λ e. refl) _ _ (inl refl) (inr (lit< tt)) (statusOf r)
 
-pub view-late : (r : Row) → After Axis (viewNumber (viewRow r))
+pub view-late : (r : Row) → After checked Axis (viewNumber (viewRow r))
 unfolding viewRow
 view-late r = by-status viewNumber Unseen (λ e. refl) _ _ (inl refl) (inl refl) (statusOf r)
 
-widened-late : (w : ℕ) (W : ℤ) (x : ℕ) → After Axis (refusalIn (widened w W x))
-widened-late w W x = go (widened w W x) (verdict w W x)
-  where
-    go : (a : Reckoned) → Verdict w W x a → After Axis (refusalIn a)
-    go a (value g e) = rw e (inr (lit< tt))
-    go a (half g p b h e) = rw e (inr (lit< tt))
-    go a (range g p b l i e) = rw e (inr (lit< tt))
-    go a (at g p b l i e) = rw e (inl refl)
-
-pub reading-late : (x : ℕ) (r : Row) → After Axis (refusalIn (readingRow x r))
+pub reading-late : (x : ℕ) (r : Row) → After checked Axis (refusalIn (readingRow x r))
 unfolding readingRow
 reading-late x r =
     let a = axisOf r in
-    by-status refusalIn Unreckoned (λ e. refl) _ _ (inr (lit< tt)) (widened-late (a .width) (positionOf (a .word)) x) (statusOf r)
+    by-status refusalIn Unreckoned (λ e. refl) _ _ (inr (lit< tt)) (late (reading-past (a .width) (positionOf (a .word)) x)) (statusOf r)
 
-count-late : (D : ℤ) (T F : ℕ) → After Axis (speedRefusal (speedByCount D T F))
+count-late : (D : ℤ) (T F : ℕ) → After checked Axis (speedRefusal (speedByCount D T F))
 unfolding speedByCount
 count-late D T F = either speedRefusal Axis (goodSpeed D T F) _ _ (inl refl) (inr (lit< tt))
 
-pub speed-late : (rate : ℕ) (r : Row) → After Axis (speedRefusal (speedRow rate r))
+pub speed-late : (rate : ℕ) (r : Row) → After checked Axis (speedRefusal (speedRow rate r))
 unfolding speedRow speedOf
 speed-late rate r =
     let a = axisOf r in
@@ -201,54 +205,47 @@ speed-late rate r =
     (inr (lit< tt)) (count-late (signOf (a .direction)) (spanOf a) rate) in
     by-status speedRefusal Unsped (λ e. refl) _ _ (either speedRefusal Axis (goodRate rate) _ _ counted (inr (lit< tt))) (inr (lit< tt)) (statusOf r)
 
-saved-late : (room : ℕ) (s : Saved) → After Axis (writtenNumber (savedAs room s))
-unfolding savedAs
-saved-late room s =
-    let size = length (recordOf s) in
-    let fitted = either writtenNumber Axis (leb size room) (Bytes size) (Unwritten Room) (inl refl) (inr (lit< tt)) in
-    either writtenNumber Axis (within s) _ _ fitted (inr (lit< tt))
-
-pub save-late : (room : ℕ) (r : Row) → After Axis (writtenNumber (saveRow room r))
+pub save-late : (room : ℕ) (r : Row) → After checked Axis (writtenNumber (saveRow room r))
 unfolding saveRow
 save-late room r =
-    let late = saved-late room (savedOf (axisOf r)) in
-    by-status writtenNumber Unwritten (λ e. refl) _ _ late late (statusOf r)
+    let past = save-past room (savedOf (axisOf r)) in
+    by-status writtenNumber Unwritten (λ e. refl) _ _ (late past) (late past) (statusOf r)
 
 -- ---- the calls
 
--- What comes after EMPTY comes after AXIS.
-sooner : {n : ℕ} → After EMPTY n → After Axis n
-sooner (inl z) = inl z
-sooner (inr l) = inr (omega arith)
-
 module _ (rule : Row → Changed) {t u : List ℕ} {k : ℕ} {a : Done} (w : Makes rule t k u a) where
-  ordered-by : ((r : Row) → After Axis (changedNumber (rule r))) → Ordered doneNumber (λ r. doneOf (rule r)) t k a
+  ordered-by : ((r : Row) → After checked Axis (changedNumber (rule r))) → Ordered doneNumber (λ r. doneOf (rule r)) t k a
   ordered-by late =
       let o = in-order changedNumber Kept (λ e. refl) rule t k late in
       rw (w .answer) (record { slice = o .slice; named = o .named; own = λ h. ap doneOf (o .own h) })
 
-  takes-any : ((r : Row) → After EMPTY (changedNumber (rule r))) → (doneNumber a ≢ numberOf BROKEN) × (doneNumber a ≢ numberOf EMPTY)
-  takes-any late = rw (w .answer) (any-row changedNumber Kept (λ e. refl) rule t k late)
+  -- A call that takes any row.
+  any-ordered : ((r : Row) → After checked EMPTY (changedNumber (rule r))) →
+      Ordered doneNumber (λ r. doneOf (rule r)) t k a × ((doneNumber a ≢ numberOf BROKEN) × (doneNumber a ≢ numberOf EMPTY))
+  any-ordered later = (
+    ordered-by (λ r. after-sooner checked EMPTY Axis (lit≤ tt) (later r)),
+    rw (w .answer) (any-row changedNumber Kept (λ e. refl) rule t k later),
+  )
 
 -- HEADLINE: setup says LENGTH, then AXIS, then its own, and never BROKEN or EMPTY.
 pub setup-ordered : (kind depth width turn : ℕ) {t u : List ℕ} {k : ℕ} {a : Done} → Makes (setupRow kind depth width turn) t k u a →
-    Ordered doneNumber (λ r. doneOf (setupRow kind depth width turn r)) t k a × ((doneNumber a ≢ numberOf BROKEN) × (doneNumber a ≢ numberOf EMPTY))
-setup-ordered kind depth width turn w =
-    let late = setup-late kind depth width turn in
-    (ordered-by _ w (λ r. sooner (late r)), takes-any _ w late)
+    Ordered doneNumber (λ r. doneOf (setupRow kind depth width turn r)) t k a ×
+    ((doneNumber a ≢ numberOf BROKEN) × (doneNumber a ≢ numberOf EMPTY))
+setup-ordered kind depth width turn w = any-ordered _ w (setup-late kind depth width turn)
 
 -- HEADLINE: so does erase.
 pub erase-ordered : {t u : List ℕ} {k : ℕ} {a : Done} → Makes eraseRow t k u a →
     Ordered doneNumber (λ r. doneOf (eraseRow r)) t k a × ((doneNumber a ≢ numberOf BROKEN) × (doneNumber a ≢ numberOf EMPTY))
-erase-ordered w = (ordered-by _ w (λ r. sooner (erase-late r)), takes-any _ w erase-late)
+erase-ordered w = any-ordered _ w erase-late
 
 -- HEADLINE: so does restore, whose own reasons are its record's in their own order.
 pub restore-ordered : (s : List ℕ) {t u : List ℕ} {k : ℕ} {a : Done} → Makes (restoreRow s) t k u a →
     Ordered doneNumber (λ r. doneOf (restoreRow s r)) t k a × ((doneNumber a ≢ numberOf BROKEN) × (doneNumber a ≢ numberOf EMPTY))
-restore-ordered s w = (ordered-by _ w (λ r. sooner (restore-late s r)), takes-any _ w (restore-late s))
+restore-ordered s w = any-ordered _ w (restore-late s)
 
 -- HEADLINE: preset says LENGTH, then AXIS, then its own.
-pub preset-ordered : (p : ℤ) {t u : List ℕ} {k : ℕ} {a : Done} → Makes (presetRow p) t k u a → Ordered doneNumber (λ r. doneOf (presetRow p r)) t k a
+pub preset-ordered : (p : ℤ) {t u : List ℕ} {k : ℕ} {a : Done} → Makes (presetRow p) t k u a →
+    Ordered doneNumber (λ r. doneOf (presetRow p r)) t k a
 preset-ordered p w = ordered-by _ w (preset-late p)
 
 -- HEADLINE: so does arm.
@@ -256,7 +253,8 @@ pub arm-ordered : {t u : List ℕ} {k : ℕ} {a : Done} → Makes armRow t k u a
 arm-ordered w = ordered-by _ w arm-late
 
 -- HEADLINE: so does acknowledge.
-pub acknowledge-ordered : {t u : List ℕ} {k : ℕ} {a : Done} → Makes acknowledgeRow t k u a → Ordered doneNumber (λ r. doneOf (acknowledgeRow r)) t k a
+pub acknowledge-ordered : {t u : List ℕ} {k : ℕ} {a : Done} → Makes acknowledgeRow t k u a →
+    Ordered doneNumber (λ r. doneOf (acknowledgeRow r)) t k a
 acknowledge-ordered w = ordered-by _ w acknowledge-late
 
 -- HEADLINE: so does a view.

@@ -10,18 +10,21 @@ use Rattle.axis.specs.declared.row.Row.{Row}
 use Rattle.row_calls.specs.declared.answer.Changed.{Changed}
 use Rattle.row_calls.specs.declared.answer.Done.{Done}
 use Rattle.row_calls.specs.declared.answer.Viewed.{Viewed}
-use Rattle.table.specs.Call.{Makes, viewedIn, Reads, speedIn, Saves}
+use Rattle.table.specs.Call.{Makes, viewedIn, ReadingMakes, speedIn, SaveMakes}
 
 -- HEADLINE: setup, erase, preset, arm, acknowledge and restore, each by its rule, have one outcome.
-pub makes-one : (rule : Row → Changed) (t : List ℕ) (k : ℕ) {u v : List ℕ} {a b : Done} → Makes rule t k u a → Makes rule t k v b → (a ≡ b) × (u ≡ v)
+pub makes-one : (rule : Row → Changed) (t : List ℕ) (k : ℕ) {u v : List ℕ} {a b : Done} →
+    Makes rule t k u a → Makes rule t k v b → (a ≡ b) × (u ≡ v)
 makes-one rule t k w z = (one (w .answer) (z .answer), one (w .table) (z .table))
 
 -- HEADLINE: a reading has one outcome.
-pub reading-one : (x : ℕ) (t : List ℕ) (k : ℕ) {u v : List ℕ} {a b : Reckoned} → Reads x t k u a → Reads x t k v b → (a ≡ b) × (u ≡ v)
+pub reading-one : (x : ℕ) (t : List ℕ) (k : ℕ) {u v : List ℕ} {a b : Reckoned} →
+    ReadingMakes x t k u a → ReadingMakes x t k v b → (a ≡ b) × (u ≡ v)
 reading-one x t k w z = (one (w .answer) (z .answer), one (w .table) (z .table))
 
 -- HEADLINE: a save has one outcome, with the buffer in the table's place, which it only reads.
-pub save-one : (t : List ℕ) (k : ℕ) (b : List ℕ) {c d : List ℕ} {a e : Written} → Saves t k b c a → Saves t k b d e → (a ≡ e) × (c ≡ d)
+pub save-one : (t : List ℕ) (k : ℕ) (b : List ℕ) {c d : List ℕ} {a e : Written} →
+    SaveMakes t k b c a → SaveMakes t k b d e → (a ≡ e) × (c ≡ d)
 save-one t k b w z = (one (w .answer) (z .answer), one (w .buffer) (z .buffer))
 
 -- HEADLINE: a view, which only reads, has one answer.

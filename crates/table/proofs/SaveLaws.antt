@@ -23,7 +23,7 @@ use Rattle.row_calls.specs.Calls.{byStatus}
 use Rattle.row_saving.specs.Saving.{savedOf, saveRow, savedIn}
 use Rattle.table_rows.specs.Table.{axesIn, rowAt}
 use Rattle.table_rows.specs.Located.{located, onFound}
-use Rattle.table.specs.Call.{Saves, Fronts}
+use Rattle.table.specs.Call.{SaveMakes, Fronts}
 use Rattle.table_rows.specs.declared.Located.{Located}
 use Rattle.table_rows.specs.declared.Located.the-variants.{At, Refused}
 use Rattle.table_rows.proofs.LocatedLaws.{found}
@@ -63,7 +63,8 @@ module _ (b : List ℕ) where
         s : Saved
         s = savedOf (axisOf r)
 
-        go : (x : Status) → byStatus Unwritten (savedAs (length b) s) (savedAs (length b) s) x ≡ Unwritten e → byStatus (λ _. b) (written b s) (written b s) x ≡ b
+        go : (x : Status) → byStatus Unwritten (savedAs (length b) s) (savedAs (length b) s) x ≡ Unwritten e →
+            byStatus (λ _. b) (written b s) (written b s) x ≡ b
         go Broken q = refl
         go Empty q = refl
         go Sampled q = refused-kept b s e q
@@ -86,7 +87,7 @@ module _ (b : List ℕ) where
 
 module _ (t : List ℕ) (k : ℕ) (b : List ℕ) {d : List ℕ} where
   -- HEADLINE: a save that is refused keeps every byte.
-  pub unsaved-keeps : (e : Refusal) → Saves t k b d (Unwritten e) → d ≡ b
+  pub unsaved-keeps : (e : Refusal) → SaveMakes t k b d (Unwritten e) → d ≡ b
   unsaved-keeps e w = w .buffer ∙ go (located t k) (sym (w .answer))
     where
       go : (l : Located) → onFound Unwritten (saveRow (length b)) l ≡ Unwritten e → onFound (λ _. b) (savedIn b) l ≡ b
@@ -94,7 +95,7 @@ module _ (t : List ℕ) (k : ℕ) (b : List ℕ) {d : List ℕ} where
       go (At r) q = row-kept b r e q
 
   -- HEADLINE: a save that is accepted answers n, puts the n bytes of the named axis's record at the front, and touches nothing beyond.
-  pub save-fronts : (n : ℕ) → Saves t k b d (Bytes n) → (k < axesIn (length t)) × Fronts (recordOf (savedOf (axisOf (rowAt t k)))) b n d
+  pub save-fronts : (n : ℕ) → SaveMakes t k b d (Bytes n) → (k < axesIn (length t)) × Fronts (recordOf (savedOf (axisOf (rowAt t k)))) b n d
   save-fronts n w = go (located t k) refl (sym (w .answer))
     where
       go : (l : Located) → located t k ≡ l → onFound Unwritten (saveRow (length b)) l ≡ Bytes n →

@@ -3,15 +3,16 @@ use Prim.Native.Nat.{ℕ}
 use mathlib.Core.Path.{_≡_, refl}
 use mathlib.Core.List.{List}
 use native.Mathlib.Omega.{arith}
-use lib.IntN.{ℤ}
 use Rattle.axis.specs.Row.{emptyRow, Words}
 use Rattle.axis.specs.declared.row.Row.{Row}
 use Rattle.record.specs.Record.{readAs}
 use Rattle.record.specs.declared.answer.Read.{Read}
 use Rattle.record.specs.declared.answer.Read.the-variants.{Accepted, Refused as Unread}
-use Rattle.row_calls.specs.Calls.{setupRow, eraseRow, presetRow, armRow, acknowledgeRow}
+use Rattle.row_calls.specs.Calls.{changeRow}
 use Rattle.row_saving.specs.Saving.{restoreRow}
 use Rattle.row_counter.specs.Reading.{readRow}
+use Rattle.row_calls.specs.declared.apply.Change.{Change}
+use Rattle.row_calls.specs.declared.apply.Change.the-variants.{Setup, Erase, Preset, Arm, Acknowledge}
 use Rattle.row_calls.specs.declared.answer.Changed.{Changed}
 use Rattle.row_calls.specs.declared.answer.Changed.the-variants.{To, Kept}
 use Rattle.row_calls.proofs.ChangeLaws.{preset-keeps, arm-keeps, acknowledge-keeps}
@@ -20,30 +21,22 @@ use Rattle.row_calls.proofs.SetupLaws.{setup-makes, erase-makes}
 use Rattle.row_saving.proofs.SaveLaws.{restore-refused, restore-makes}
 use Rattle.table_rows.specs.Table.{AllWords, rowAt}
 use Rattle.table.specs.Call.{ruled, tableAfter}
-use Rattle.table_rows.proofs.TableLaws.{set-words}
+use Rattle.table_rows.proofs.RowsLaws.{set-words}
 use Rattle.table.proofs.CallLaws.{replaced}
 
 -- A rule makes rows of 64-bit words.
 abbrev pub Made : (Row → Changed) → Type 0
 Made rule = (r q : Row) → rule r ≡ To q → Words q
 
-pub setup-made : (kind depth width turn : ℕ) → Made (setupRow kind depth width turn)
-setup-made kind depth width turn r q e = setup-makes kind depth width turn r q e .words
-
-pub erase-made : Made eraseRow
-erase-made r q e =
+pub change-made : (c : Change) → Made (changeRow c)
+change-made (Setup kind depth width turn) r q e = setup-makes kind depth width turn r q e .words
+change-made Erase r q e =
     let m = erase-makes r in
     let same : q ≡ emptyRow = cc (m .0) in
     rw same (m .1 .words)
-
-pub preset-made : (p : ℤ) → Made (presetRow p)
-preset-made p r q e = preset-keeps p r q e .words
-
-pub arm-made : Made armRow
-arm-made r q e = arm-keeps r q e .words
-
-pub acknowledge-made : Made acknowledgeRow
-acknowledge-made r q e = acknowledge-keeps r q e .words
+change-made (Preset p) r q e = preset-keeps p r q e .words
+change-made Arm r q e = arm-keeps r q e .words
+change-made Acknowledge r q e = acknowledge-keeps r q e .words
 
 pub read-made : (x : ℕ) → Made (readRow x)
 read-made x r q e = read-keeps x r q e .2 .words

@@ -57,7 +57,7 @@ abbrev pub readIn : ℕ → List ℕ → ℕ → Reckoned
 readIn x t k = onFound Unreckoned (readingRow x) (located t k)
 
 -- What a reading promises: the position that is stored is the one answered.
-pub record Reads (x : ℕ) (t : List ℕ) (k : ℕ) (u : List ℕ) (a : Reckoned) : Type 0 where
+pub record ReadingMakes (x : ℕ) (t : List ℕ) (k : ℕ) (u : List ℕ) (a : Reckoned) : Type 0 where
   pub answer : a ≡ readIn x t k
   pub table : u ≡ tableAfter t k (ruled (readRow x) t k)
 
@@ -70,7 +70,7 @@ abbrev pub saveIn : ℕ → List ℕ → ℕ → Written
 saveIn room t k = onFound Unwritten (saveRow room) (located t k)
 
 -- What a save promises: b before, d after, and the answer; the table is only read.
-pub record Saves (t : List ℕ) (k : ℕ) (b d : List ℕ) (a : Written) : Type 0 where
+pub record SaveMakes (t : List ℕ) (k : ℕ) (b d : List ℕ) (a : Written) : Type 0 where
   pub answer : a ≡ saveIn (length b) t k
   pub buffer : d ≡ onFound (λ _. b) (savedIn b) (located t k)
 

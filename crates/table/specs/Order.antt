@@ -1,24 +1,13 @@
 -- The order of the reasons in a call that names one axis: document 01, "Reasons for saying no".
 use Prim.Native.Nat.{ℕ, _<_, _≤_}
 use mathlib.Core.Path.{_≡_}
-use mathlib.Core.Logic.{_≢_, _↔_, _⊎_}
+use mathlib.Core.Logic.{_≢_, _↔_}
 use mathlib.Core.List.{List}
 use lib.ListN.{length}
 use Rattle.refusal.specs.Refusal.{numberOf}
-use Rattle.refusal.specs.declared.Refusal.{Refusal}
 use Rattle.refusal.specs.declared.Refusal.the-variants.{Length, Axis}
 use Rattle.axis.specs.declared.row.Row.{Row}
-use Rattle.row_calls.specs.Answer.{doneOf, doneNumber}
-use Rattle.row_calls.specs.declared.answer.Changed.{Changed}
 use Rattle.table_rows.specs.Table.{axesIn, rowAt}
-
--- A number of an answer that is done, or refused for a reason that comes after this one.
-abbrev pub After : Refusal → ℕ → Type 0
-After e n = (n ≡ 0) ⊎ (numberOf e < n)
-
--- The number that is answered for what a call makes of the row, 0 where that is another row.
-abbrev pub changedNumber : Changed → ℕ
-changedNumber c = doneNumber (doneOf c)
 
 -- LENGTH exactly where the slice holds no axis, else AXIS exactly where it holds none of that number, else what the row's own rule says.
 pub record Ordered {A : Type 0} (number : A → ℕ) (say : Row → A) (t : List ℕ) (k : ℕ) (a : A) : Type 0 where

@@ -1,10 +1,15 @@
-// What a call makes of the named row, written back or not.
+// What a call makes of the named row, written back or not; and the calls that make another row and answer only that they did, all at once.
 ghost use Prim.Native.Nat.{_+_, _*_, _≤_};
 ghost use lib.ListN.{length};
-ghost use Rattle.table.specs.Call.{Commits};
+ghost use Rattle.row_calls.specs.Calls.{changeRow};
+ghost use Rattle.table.specs.Call.{Commits, Makes};
 use row_calls::answer::Changed;
 use row_calls::answer::Done;
 use row_calls::answer::answered;
+use row_calls::apply::Change;
+use row_calls::apply::apply;
+use table_rows::Located;
+use table_rows::locate;
 use table_rows::write_row;
 
 // The row that the call made takes the named one's place, or every word stays.
@@ -17,4 +22,14 @@ pub(crate) fn commit(table: &mut [u64], axis: u64, change: Changed) -> Done
     };
     write_row(table, axis as usize, row);
     answered(change)
+}
+
+// A change of the named row: LENGTH, AXIS, then the change's own reasons.
+pub(crate) fn make(table: &mut [u64], axis: u64, change: Change) -> Done
+    ensures { λ r. ⌜ Makes (changeRow change) (now (table .entry)) axis (now (table .exit)) r ⌝ }
+{
+    match locate(table, axis) {
+        Located::Refused(e) => Done::Refused(e),
+        Located::At(row) => commit(table, axis, apply(row, change)),
+    }
 }

@@ -1,5 +1,5 @@
 // A reading of a narrow counter.
-ghost use Rattle.table.specs.Call.{Reads};
+ghost use Rattle.table.specs.Call.{ReadingMakes};
 use crate::commit::commit;
 use reckon::Reckoned;
 use table_rows::Located;
@@ -7,7 +7,7 @@ use table_rows::locate;
 
 // The position that a reading gives, stored and answered: LENGTH, AXIS, BROKEN, EMPTY, KIND, VALUE, HALF, RANGE.
 pub fn reading(table: &mut [u64], axis: u64, reading: u64) -> Reckoned
-    ensures { λ n. ⌜ Reads reading (now (table .entry)) axis (now (table .exit)) n ⌝ }
+    ensures { λ n. ⌜ ReadingMakes reading (now (table .entry)) axis (now (table .exit)) n ⌝ }
 {
     match locate(table, axis) {
         Located::Refused(e) => Reckoned::Refused(e),

@@ -1,6 +1,6 @@
 // Save and restore.
 ghost use Rattle.row_saving.specs.Saving.{restoreRow};
-ghost use Rattle.table.specs.Call.{Makes, Saves};
+ghost use Rattle.table.specs.Call.{Makes, SaveMakes};
 use crate::commit::commit;
 use record::answer::Written;
 use row_calls::answer::Done;
@@ -9,7 +9,7 @@ use table_rows::locate;
 
 // The axis's record at the front of a buffer: LENGTH, AXIS, BROKEN, EMPTY, ROOM.
 pub fn save(table: &[u64], axis: u64, buf: &mut [u8]) -> Written
-    ensures { λ w. ⌜ Saves (now (table .entry)) axis (now (buf .entry)) (now (buf .exit)) w ⌝ }
+    ensures { λ w. ⌜ SaveMakes (now (table .entry)) axis (now (buf .entry)) (now (buf .exit)) w ⌝ }
 {
     match locate(table, axis) {
         Located::Refused(e) => Written::Refused(e),

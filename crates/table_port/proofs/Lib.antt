@@ -1,3 +1,4 @@
+pub mod RoomLaws
 pub mod AnswerLaws
 pub mod MaskLaws
 pub mod PortLaws

@@ -11,7 +11,7 @@ use lib.Pow.{pow-pos, pow-add, pow-mono, high, shl-exact}
 use Rattle.fields.specs.Field.{flagOf}
 use Rattle.table_port.specs.Port.{putBit, maskOf}
 
--- A shift and an or put a bit above what a mask holds.
+-- A shift and an or put a bit above what a mask of 16 bits holds.
 pub bit-put : (k m : ℕ) → k < 16 → m < 2 ^ k → bitOr m (1 * 2 ^ k % 2 ^ 16) ≡ m + 2 ^ k
 bit-put k m h b = rw (shl-exact 1 k 16 (lit< tt) (omega arith)) (or-shifted-r 1 k m b ∙ omega arith)
 
@@ -39,7 +39,8 @@ put-other m k j false h = refl
 put-other m k j true h =
     let d : ℕ = k - suc j in
     let p : k ≡ suc d + j = omega arith in
-    let e : m + 2 ^ k ≡ 2 ^ d * 2 * 2 ^ j + m = omega (arith, ap (λ (x : ℕ). 2 ^ x) p ∙ pow-add 2 (suc d) j ∙ ap (λ (x : ℕ). x * 2 ^ j) (pow-suc 2 d)) in
+    let w : 2 ^ k ≡ 2 ^ d * 2 * 2 ^ j = ap (λ (x : ℕ). 2 ^ x) p ∙ pow-add 2 (suc d) j ∙ ap (λ (x : ℕ). x * 2 ^ j) (pow-suc 2 d) in
+    let e : m + 2 ^ k ≡ 2 ^ d * 2 * 2 ^ j + m = omega arith in
     let q : (m + 2 ^ k) / 2 ^ j ≡ 2 ^ d * 2 + m / 2 ^ j = ap (λ (x : ℕ). x / 2 ^ j) e ∙ mul-add-div-right (pow-pos j) (2 ^ d * 2) m in
     let r : (m + 2 ^ k) / 2 ^ j % 2 ≡ m / 2 ^ j % 2 = omega arith in
     ap (λ (x : ℕ). eqb x 1) r

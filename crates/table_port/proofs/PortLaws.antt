@@ -22,10 +22,11 @@ use Rattle.axis_sample.specs.Step.{kept, stepRow}
 use Rattle.axis_sample.specs.declared.step.SteppedRow.{SteppedRow}
 use Rattle.axis_sample.proofs.RowLaws.{row-steps, empty-stays, counter-stays, broken-stays, words-after, fourth-unread}
 use Rattle.table_rows.specs.Table.{axesIn, rowAt, setRow, AllWords}
-use Rattle.table_port.specs.Port.{nibble, stepAt, sampledTo, maskOf, masksTo, noted, Below, sampledTable, sampledAnswer, Samples, Bits, Stays}
+use Rattle.table_port.specs.Port.{nibble, stepAt, sampledTo, maskOf, masksTo, noted, Below}
+use Rattle.table_port.specs.Port.{sampledTable, sampledAnswer, Samples, Bits, Stays}
 use Rattle.table_port.specs.declared.Masks.{Masks}
 use Rattle.table_port.specs.declared.Sampled.the-variants.{Seen, Refused}
-use Rattle.table_rows.proofs.TableLaws.{axes-fit, length-setRow, row-same, row-other, row-words, set-words}
+use Rattle.table_rows.proofs.RowsLaws.{axes-fit, length-setRow, row-same, row-other, row-words, set-words}
 use Rattle.table_port.proofs.MaskLaws.{mask-below, mask-same, mask-bit, mask-above}
 
 -- ---- one row after another
@@ -100,7 +101,8 @@ unfolding sampledAnswer sampledTable sampledTo
 sample-none t port e = record { answer = rw (eq-eqb _ _ e); table = rw e }
 
 -- Else all n rows are sampled.
-pub sample-all : (t : List ℕ) (port n : ℕ) → n ≡ axesIn (length t) → n ≢ 0 → Samples t port (sampledTo n t (nibble port)) (Seen (masksTo n t (nibble port)))
+pub sample-all : (t : List ℕ) (port n : ℕ) → n ≡ axesIn (length t) → n ≢ 0 →
+    Samples t port (sampledTo n t (nibble port)) (Seen (masksTo n t (nibble port)))
 unfolding sampledAnswer sampledTable
 sample-all t port n e h = record { answer = rw (← e, ne-eqb n 0 h); table = rw e }
 
@@ -115,7 +117,8 @@ module _ (t : List ℕ) (port : ℕ) where
   unfolding sampledAnswer
   sample-refused e = (go (eqb (axesIn (length t)) 0) refl, λ h. rw (eq-eqb _ _ (h .0), h .1))
     where
-      go : (b : Bool) → eqb (axesIn (length t)) 0 ≡ b → cond b (Refused Length) (Seen (masksTo (axesIn (length t)) t (nibble port))) ≡ Refused e →
+      go : (b : Bool) → eqb (axesIn (length t)) 0 ≡ b →
+          cond b (Refused Length) (Seen (masksTo (axesIn (length t)) t (nibble port))) ≡ Refused e →
           (axesIn (length t) ≡ 0) × (e ≡ Length)
       go true z q = (eqb-true _ _ z, cc)
       go false z q = absurd (let n : _≡_ {A = ℕ} 0 1 = cc in omega arith)
@@ -150,7 +153,8 @@ module _ (t : List ℕ) (port : ℕ) where
 
     -- HEADLINE: each row's bits of the answer are its own step's.
     pub sample-bits : (m : Masks) → sampledAnswer t port ≡ Seen m →
-        Bits m k (stepRow (rowAt t k) (nibble port k) .double) (stepRow (rowAt t k) (nibble port k) .index) (stepRow (rowAt t k) (nibble port k) .broken)
+        let s = stepRow (rowAt t k) (nibble port k) in
+        Bits m k (s .double) (s .index) (s .broken)
     unfolding masksTo
     sample-bits m q =
         let e = seen m q in
@@ -195,9 +199,11 @@ module _ (t : List ℕ) (port : ℕ) where
       go (suc n) = set-words _ n _ (go n) (words-after (rowAt t n) (nibble port n) (row-words t n h))
 
 -- HEADLINE: axes stand apart: where two tables agree on row k and two ports on its three lines, row k and its bits are the same after.
-pub sample-apart : (t u : List ℕ) (p q k : ℕ) → k < axesIn (length t) → k < axesIn (length u) → rowAt t k ≡ rowAt u k → fieldOf (k * 4) 3 p ≡ fieldOf (k * 4) 3 q →
+pub sample-apart : (t u : List ℕ) (p q k : ℕ) → k < axesIn (length t) → k < axesIn (length u) →
+    rowAt t k ≡ rowAt u k → fieldOf (k * 4) 3 p ≡ fieldOf (k * 4) 3 q →
     (rowAt (sampledTable t p) k ≡ rowAt (sampledTable u q) k) ×
-    ((m o : Masks) → sampledAnswer t p ≡ Seen m → sampledAnswer u q ≡ Seen o → Bits m k (flagOf k (o .doubles)) (flagOf k (o .index)) (flagOf k (o .broken)))
+    ((m o : Masks) → sampledAnswer t p ≡ Seen m → sampledAnswer u q ≡ Seen o →
+    Bits m k (flagOf k (o .doubles)) (flagOf k (o .index)) (flagOf k (o .broken)))
 sample-apart t u p q k h i r b =
     let e : stepAt t (nibble p) k ≡ stepAt u (nibble q) k = rw r (lines-step (rowAt u k) p q k b) in (
       sample-row t p k h ∙ ap (λ (s : SteppedRow). s .row) e ∙ sym (sample-row u q k i),

@@ -2,6 +2,7 @@
 ghost use mathlib.Core.Path.{_≡_};
 ghost use Prim.Native.Nat.{_+_, _*_, _^_, _<_, _≤_};
 ghost use lib.ListN.{length};
+ghost use Rattle.axis.specs.Limit.{mostAxes};
 ghost use Rattle.table_port.specs.Port.{nibble, putBit, noted, Below, SamplesRow, Samples};
 use axis_sample::step::SteppedRow;
 use axis_sample::step::step_row;
@@ -25,7 +26,7 @@ pub enum Sampled {
 
 // The four bits of a port word that axis k owns.
 fn nibble(port: u64, k: usize) -> u64
-    requires { ⌜ k < 16 ⌝ }
+    requires { ⌜ k < mostAxes ⌝ }
     ensures { λ r. ⌜ r ≡ nibble port k ⌝ }
 {
     (port >> (k * 4)) & 15
@@ -33,7 +34,7 @@ fn nibble(port: u64, k: usize) -> u64
 
 // A mask that lies below bit k, with that bit put to it.
 fn put_bit(mask: u16, k: usize, on: bool) -> u16
-    requires { ⌜ (k < 16) × (mask < 2 ^ k) ⌝ }
+    requires { ⌜ (k < mostAxes) × (mask < 2 ^ k) ⌝ }
     ensures { λ r. ⌜ r ≡ putBit mask k on ⌝ }
 {
     if on { mask | (1 << k) } else { mask }
@@ -41,7 +42,7 @@ fn put_bit(mask: u16, k: usize, on: bool) -> u16
 
 // The masks with row k's bits put to them.
 fn note(masks: Masks, k: usize, stepped: SteppedRow) -> Masks
-    requires { ⌜ (k < 16) × Below masks k ⌝ }
+    requires { ⌜ (k < mostAxes) × Below masks k ⌝ }
     ensures { λ r. ⌜ r ≡ noted masks k stepped ⌝ }
 {
     Masks {
@@ -53,7 +54,7 @@ fn note(masks: Masks, k: usize, stepped: SteppedRow) -> Masks
 
 // Row k after its own four bits, written back.
 fn sample_row(table: &mut [u64], k: usize, port: u64) -> SteppedRow
-    requires { ⌜ (k < 16) × (k * 4 + 4 ≤ length (now table)) ⌝ }
+    requires { ⌜ (k < mostAxes) × (k * 4 + 4 ≤ length (now table)) ⌝ }
     ensures { λ s. ⌜ SamplesRow (now (table .entry)) k port (now (table .exit)) s ⌝ }
 {
     let stepped = step_row(read_row(table, k), nibble(port, k));

@@ -13,7 +13,7 @@ use Rattle.axis.specs.declared.row.Row.{Row}
 use Rattle.table_rows.specs.Table.{axesIn, rowAt}
 use Rattle.table_rows.specs.Located.{located}
 use Rattle.table_rows.specs.declared.Located.the-variants.{At, Refused}
-use Rattle.table_rows.proofs.TableLaws.{axes-fit}
+use Rattle.table_rows.proofs.RowsLaws.{axes-fit}
 
 module _ (t : List ℕ) (k : ℕ) where
   -- HEADLINE: a wrong length is LENGTH, whatever axis is named.

@@ -4,11 +4,12 @@ use mathlib.Core.Bool.{cond, _&&_}
 use mathlib.Core.List.{List}
 use lib.Dec.{eqb, leb}
 use lib.ListN.{getD, set}
+use Rattle.axis.specs.Limit.{mostAxes}
 use Rattle.axis.specs.declared.row.Row.{Row}
 
--- How many axes a slice of so many words holds: n for 4n words, n from 1 to 16, and 0 for any other length.
+-- How many axes a slice of so many words holds: n for 4n words, n from 1 to the most there may be, and 0 for any other length.
 unfoldable pub axesIn : ℕ → ℕ
-axesIn len = cond (eqb (len % 4) 0 && leb (len / 4) 16) (len / 4) 0
+axesIn len = cond (eqb (len % 4) 0 && leb (len / 4) mostAxes) (len / 4) 0
 
 -- Row k of a table.
 unfoldable pub rowAt : List ℕ → ℕ → Row

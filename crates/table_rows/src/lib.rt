@@ -4,6 +4,7 @@ ghost use Prim.Native.Nat.{_+_, _*_, _≤_};
 ghost use lib.ListN.{length};
 ghost use Rattle.table_rows.specs.Table.{axesIn, rowAt, setRow};
 ghost use Rattle.table_rows.specs.Located.{located};
+use axis::limit::AXES;
 use axis::row::Row;
 use refusal::Refusal;
 
@@ -17,7 +18,7 @@ pub enum Located {
 pub fn axes_in(len: usize) -> usize
     ensures { λ n. ⌜ n ≡ axesIn len ⌝ }
 {
-    if (len % 4 == 0) & (len / 4 <= 16) {
+    if (len % 4 == 0) & (len / 4 <= AXES) {
         return len / 4;
     }
     0

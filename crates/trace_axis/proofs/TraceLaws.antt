@@ -11,6 +11,7 @@ use lib.Dec.{lit<}
 use lib.IntN.{pos}
 use Rattle.position.specs.Position.{positionOf}
 use Rattle.axis.specs.Config.{goodConfig}
+use Rattle.axis.specs.Limit.{mostAxes}
 use Rattle.axis.specs.Kind.{X4}
 use Rattle.axis.specs.Row.{axisOf, rowOf, fresh}
 use Rattle.axis_sound.specs.Sound.{statusOf}
@@ -26,7 +27,7 @@ use Rattle.table_rows.specs.Table.{axesIn, rowAt, setRow}
 use Rattle.table_rows.specs.Located.{located}
 use Rattle.table_port.specs.Port.{nibble, sampledTo, sampledTable}
 use Rattle.table.specs.Call.{tableAfter, viewedIn}
-use Rattle.table_rows.proofs.TableLaws.{row-same}
+use Rattle.table_rows.proofs.RowsLaws.{row-same}
 use Rattle.table_rows.proofs.LocatedLaws.{found-at}
 use Rattle.table_port.proofs.PortLaws.{length-sampledTo}
 use Rattle.trace_axis.specs.Trace.{LIMIT, started, tracedBy, lookedAt, fedWith, reportOf, lowFour, steppedBy, inputRow, inputReport}
@@ -78,7 +79,7 @@ fed-grows x bs h some = omega (arith, length-take (LIMIT - x .samples) bs)
 
 -- A sample of a table of one axis steps its row by the low four bits.
 row-sampled : (t : List ℕ) (b : ℕ) → length t ≡ 4 → rowAt (sampledTable t b) 0 ≡ stepRow (rowAt t 0) (lowFour b) .row
-unfolding sampledTable sampledTo axesIn nibble
+unfolding sampledTable sampledTo axesIn mostAxes nibble
 row-sampled t b e =
     let q : b / 1 % 16 ≡ b % 16 = omega arith in
     rw e (row-same t 0 _ (omega arith) ∙ ap (λ (n : ℕ). stepRow (rowAt t 0) n .row) q)
@@ -110,16 +111,16 @@ status-stepped r (n ∷ ns) = status-stepped (stepRow r n .row) ns ∙ status-af
 
 -- A trace starts with the row of a setup.
 start-row : rowAt (started .words) 0 ≡ rowOf (fresh (configOf X4 1 0 0))
-unfolding started tableAfter located setupRow goodConfig axesIn rowAt setRow
+unfolding started tableAfter located setupRow goodConfig axesIn mostAxes rowAt setRow
 start-row = refl
 
 start-length : length (started .words) ≡ 4
-unfolding started tableAfter located setupRow goodConfig axesIn rowAt setRow
+unfolding started tableAfter located setupRow goodConfig axesIn mostAxes rowAt setRow
 start-length = refl
 
 -- A view of a table of one sampled axis shows that axis.
 view-one : (t : List ℕ) (r : Row) → length t ≡ 4 → rowAt t 0 ≡ r → statusOf r ≡ Sampled → viewedIn t 0 ≡ Shows (viewOf (axisOf r))
-unfolding axesIn viewRow
+unfolding axesIn mostAxes viewRow
 view-one t r l e s = let h : 0 < axesIn (length t) = rw l (lit< tt) in rw (sym (found-at t 0 h), e, s)
 
 -- ---- a whole input

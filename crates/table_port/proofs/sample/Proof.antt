@@ -4,9 +4,10 @@ use mathlib.Core.Path.{_≡_, refl, sym, ap, _∙_}
 use mathlib.Core.List.{List}
 use lib.ListN.{length}
 use borrow.Author.Needs.{needs}
+use Rattle.axis.specs.Limit.{mostAxes}
 use Rattle.table_port.specs.Port.{nibble, sampledTo, maskOf, masksTo}
 use Rattle.table_port.specs.declared.Masks.{Masks}
-use Rattle.table_rows.proofs.TableLaws.{axes-fit, axes-most}
+use Rattle.table_rows.proofs.RowsLaws.{axes-fit, axes-most}
 use Rattle.table_port.proofs.PortLaws.{length-sampledTo, masks-below, masks-next, table-next, sample-none, sample-all}
 use Rattle.table_port.proofs.sample.Statement.{statement}
 use Rattle.table_port.proofs.sample.Tie as tie
@@ -41,7 +42,7 @@ unfolding sampledTo masksTo maskOf
 loop-holds c = record { within = search needs; table = refl; masks = refl }
 
 module _ (c : tie.In-loop Inv-loop μ-loop) where
-  small : c .before .loop .k < 16
+  small : c .before .loop .k < mostAxes
   small = omega (arith, axes-most (length (c .before .before .before .before .before .args .table .now)))
 
   inside : c .before .loop .k * 4 + 4 ≤ length (c .before .loop .table)
@@ -57,7 +58,9 @@ sample-row-requires : tie.Need-sample-row-requires Inv-loop μ-loop
 sample-row-requires c κs = (small (c .before), inside (c .before))
 
 note-requires : tie.Need-note-requires Inv-loop μ-loop
-note-requires c κs = (small (c .before .before .before .before), rw (c .before .before .before .before .before .loop .inv .masks) (masks-below _ _ _))
+note-requires c κs =
+    let i = c .before .before .before .before in
+    (small i, rw (i .before .loop .inv .masks) (masks-below _ _ _))
 
 add-k : tie.Need-add-k Inv-loop μ-loop
 add-k c = search needs
@@ -69,7 +72,11 @@ loop-again : tie.Need-loop-again Inv-loop μ-loop
 loop-again c =
     let a = c .before .before .before .before .before .before .before .before .before .before .args in
     let k = c .before .before .before .before .before .before .loop .k in
-    record { within = search needs; table = cc (table-next (a .table .now) (nibble (a .port)) k); masks = cc (masks-next (a .table .now) (nibble (a .port)) k) }
+    record {
+      within = search needs;
+      table = cc (table-next (a .table .now) (nibble (a .port)) k);
+      masks = cc (masks-next (a .table .now) (nibble (a .port)) k);
+    }
 
 same-length : tie.Need-same-length Inv-loop μ-loop
 same-length c = ap length (c .before .loop .inv .table) ∙ length-sampledTo _ _ _

@@ -22,7 +22,12 @@ returns c =
     let s = c .before .before .before .before .before in
     record {
       outcome = rw (s .step-row .ensures, s .before .before .read-row .ensures, s .before .nibble .ensures);
-      table = rw (c .before .before .write-row .ensures, s .step-row .ensures, s .before .before .read-row .ensures, s .before .nibble .ensures);
+      table = rw (
+        c .before .before .write-row .ensures,
+        s .step-row .ensures,
+        s .before .before .read-row .ensures,
+        s .before .nibble .ensures,
+      );
     }
 
 pub sample-row-spec : {M : Type 1} → statement M

@@ -3,7 +3,7 @@ use mathlib.Core.Path.{ap, _∙_}
 use lib.ListN.{length}
 use Rattle.axis.specs.declared.row.Row.{Row}
 use Rattle.table_rows.specs.declared.Located.{Located}
-use Rattle.table_rows.proofs.TableLaws.{axes-fit}
+use Rattle.table_rows.proofs.RowsLaws.{axes-fit}
 use Rattle.table_rows.proofs.LocatedLaws.{found-none, found-past, found-at}
 use borrow.Author.Needs.{needs}
 use Rattle.table_rows.proofs.locate.Statement.{statement}

@@ -18,7 +18,7 @@ read-requires : tie.Need-read-requires
 read-requires c κs = search needs
 
 commit-requires : tie.Need-commit-requires
-commit-requires c κs = found-fits _ _ _ (sym (c .before .before .before .before .before .locate .ensures) ∙ c .before .before .before .row .given .1)
+commit-requires c κs = let f = c .before .before .before in found-fits _ _ _ (sym (f .before .before .locate .ensures) ∙ f .row .given .1)
 
 same-length : tie.Need-same-length
 same-length c = search needs
@@ -31,7 +31,8 @@ same-length-2 c = search needs
 
 returns-2 : tie.Need-returns-2
 returns-2 c =
-    let q = sym (c .before .before .before .before .before .before .before .before .locate .ensures) ∙ c .before .before .before .before .before .before .row .given .1 in
+    let f = c .before .before .before .before .before .before in
+    let q = sym (f .before .before .locate .ensures) ∙ f .row .given .1 in
     let taken = c .before .before .before .before .read .ensures in
     found-reads _ _ _ _ _ q (taken .0) (taken .1) (c .before .before .commit .ensures)
 

@@ -31,7 +31,8 @@ same-length-2 c = search needs
 
 returns-2 : tie.Need-returns-2
 returns-2 c =
-    let q = sym (c .before .before .before .before .before .before .before .locate .ensures) ∙ c .before .before .before .before .before .enum-told .given .1 in
+    let f = c .before .before .before .before .before in
+    let q = sym (f .before .before .locate .ensures) ∙ f .enum-told .given .1 in
     found-makes _ _ _ _ _ q (c .before .before .before .restore .ensures _) (c .before .before .commit .ensures)
 
 pub restore-spec : {M : Type 1} → statement M

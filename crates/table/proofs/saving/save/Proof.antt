@@ -24,7 +24,8 @@ same-length c = search needs
 
 returns-2 : tie.Need-returns-2
 returns-2 c =
-    let q = sym (c .before .before .before .before .before .before .before .locate .ensures) ∙ c .before .before .before .before .before .row .given .1 in
+    let f = c .before .before .before .before .before in
+    let q = sym (f .before .before .locate .ensures) ∙ f .row .given .1 in
     let saved = c .before .before .save .ensures in
     found-saves _ _ _ _ q (saved .0) (saved .1)
 

@@ -10,6 +10,7 @@ use lib.Dec.{eqb, leb, ltb}
 use lib.ListN.{length, getD, set, length-set}
 use lib.Seq.{getD-set-same, getD-set-other, lt-length-set, set-out, ext-getD}
 use borrow.Author.Tests.{eq-eqb, eqb-true, eqb-false, le-leb, leb-true, ltb-true, ltb-false}
+use Rattle.axis.specs.Limit.{mostAxes}
 use Rattle.axis.specs.Row.{Words}
 use Rattle.axis.specs.declared.row.Row.{Row}
 use Rattle.table_rows.specs.Table.{axesIn, rowAt, setRow, AllWords}
@@ -17,60 +18,60 @@ use Rattle.table_rows.specs.Table.{axesIn, rowAt, setRow, AllWords}
 -- ---- how many axes
 
 -- A length that passes the test holds a fourth of it, and any other none.
-pub axes-held : (len : ℕ) → (eqb (len % 4) 0 && leb (len / 4) 16) ≡ true → len / 4 ≡ axesIn len
+pub axes-held : (len : ℕ) → (eqb (len % 4) 0 && leb (len / 4) mostAxes) ≡ true → len / 4 ≡ axesIn len
 unfolding axesIn
 axes-held len e = rw e
 
-pub axes-none : (len : ℕ) → (eqb (len % 4) 0 && leb (len / 4) 16) ≡ false → 0 ≡ axesIn len
+pub axes-none : (len : ℕ) → (eqb (len % 4) 0 && leb (len / 4) mostAxes) ≡ false → 0 ≡ axesIn len
 unfolding axesIn
 axes-none len e = rw e
 
 -- Four words for each axis lie in the slice.
 pub axes-fit : (len : ℕ) → axesIn len * 4 ≤ len
 unfolding axesIn
-axes-fit len = go (eqb (len % 4) 0 && leb (len / 4) 16)
+axes-fit len = go (eqb (len % 4) 0 && leb (len / 4) mostAxes)
   where
     go : (b : Bool) → cond b (len / 4) 0 * 4 ≤ len
     go true = omega arith
     go false = omega arith
 
--- No slice holds more than sixteen.
-pub axes-most : (len : ℕ) → axesIn len ≤ 16
+-- No slice holds more than the limit.
+pub axes-most : (len : ℕ) → axesIn len ≤ mostAxes
 unfolding axesIn
-axes-most len = go (eqb (len % 4) 0) (leb (len / 4) 16) refl
+axes-most len = go (eqb (len % 4) 0) (leb (len / 4) mostAxes) refl
   where
-    go : (a b : Bool) → leb (len / 4) 16 ≡ b → cond (a && b) (len / 4) 0 ≤ 16
+    go : (a b : Bool) → leb (len / 4) mostAxes ≡ b → cond (a && b) (len / 4) 0 ≤ mostAxes
     go true true e = leb-true _ _ e
     go true false e = omega arith
     go false b e = omega arith
 
 -- 4n words hold n.
-pub axes-of : (n : ℕ) → n ≤ 16 → axesIn (n * 4) ≡ n
+pub axes-of : (n : ℕ) → n ≤ mostAxes → axesIn (n * 4) ≡ n
 unfolding axesIn
 axes-of n h =
     let a : n * 4 % 4 ≡ 0 = omega arith in
     let b : n * 4 / 4 ≡ n = omega arith in
-    let l : n * 4 / 4 ≤ 16 = omega arith in
+    let l : n * 4 / 4 ≤ mostAxes = omega arith in
     rw (eq-eqb _ _ a, le-leb _ _ l) b
 
 -- A slice that holds n is 4n words.
 pub axes-only : (len : ℕ) → axesIn len ≢ 0 → len ≡ axesIn len * 4
 unfolding axesIn
-axes-only len = go (eqb (len % 4) 0) (leb (len / 4) 16) refl
+axes-only len = go (eqb (len % 4) 0) (leb (len / 4) mostAxes) refl
   where
     go : (a b : Bool) → eqb (len % 4) 0 ≡ a → cond (a && b) (len / 4) 0 ≢ 0 → len ≡ cond (a && b) (len / 4) 0 * 4
     go true true e h = let z : len % 4 ≡ 0 = eqb-true _ _ e in omega arith
     go true false e h = absurd (h refl)
     go false b e h = absurd (h refl)
 
--- HEADLINE: a slice holds no axis exactly where it is not 4n words, n from 1 to 16.
-pub length-wrong : (len : ℕ) → (axesIn len ≡ 0) ↔ ((n : ℕ) → 1 ≤ n → n ≤ 16 → len ≢ n * 4)
+-- HEADLINE: a slice holds no axis exactly where it is not 4n words, n from 1 to the limit.
+pub length-wrong : (len : ℕ) → (axesIn len ≡ 0) ↔ ((n : ℕ) → 1 ≤ n → n ≤ mostAxes → len ≢ n * 4)
 length-wrong len = (
   (λ z n some most e. let q : axesIn (n * 4) ≡ 0 = rw e at z in omega (arith, axes-of n most)),
   (λ none. go none (eqb (axesIn len) 0) refl),
 )
   where
-    go : ((n : ℕ) → 1 ≤ n → n ≤ 16 → len ≢ n * 4) → (b : Bool) → eqb (axesIn len) 0 ≡ b → axesIn len ≡ 0
+    go : ((n : ℕ) → 1 ≤ n → n ≤ mostAxes → len ≢ n * 4) → (b : Bool) → eqb (axesIn len) 0 ≡ b → axesIn len ≡ 0
     go none true e = eqb-true _ _ e
     go none false e = absurd (let h : axesIn len ≢ 0 = eqb-false _ _ e in none (axesIn len) (omega arith) (axes-most len) (axes-only len h))
 

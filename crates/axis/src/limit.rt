@@ -1,0 +1,2 @@
+// How many axes there may be together. Definitions and laws name it `mostAxes`.
+pub const AXES: usize = 16;
