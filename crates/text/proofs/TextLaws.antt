@@ -1,6 +1,5 @@
 -- The laws of a report's text: document 01, "Trace program".
 use Prim.Native.Nat.{ℕ, suc, _+_, _/_, _%_, _^_, _≤_, _<_}
-use native.Mathlib.Numerals.{add-one}
 use native.Mathlib.Omega.{arith}
 use mathlib.Core.Path.{_≡_, refl, sym, ap, subst, _∙_}
 use mathlib.Core.Bool.{true, false}
@@ -8,31 +7,18 @@ use mathlib.Core.List.{List, [], _∷_, _++_}
 use lib.Dec.{T}
 use lib.IntN.{ℤ, pos, negsuc, natAbs, _-ℤ_}
 use lib.Signed.{ltZ}
-use lib.ListN.{length, take, getD, set, length-append}
-use lib.Seq.{sets, take-suc, length-take-le}
+use lib.ListN.{length, length-append}
 use borrow.Author.Tests.{ltb-true}
 use mir.Syntax.{w64}
 use mir.Val.{SFits}
 use Rattle.integers.specs.Integer.{plus, minus}
 use Rattle.integers.proofs.Balance.{abs-is, bal-sub, ltZ-true}
 use Rattle.integers.proofs.Machine.{i64-fits, fits-size, no-neg, no-pos, abs-nonneg}
-use Rattle.tagged.proofs.StoreLaws.{sets-then}
-use Rattle.text.specs.Text.{FEED, MINUS, ZERO, SAMPLES, POSITION, DOUBLES, decimal, numeral, lineOf, textOf, Puts}
+use Rattle.tagged.specs.Store.{Puts}
+use Rattle.tagged.proofs.StoreLaws.{puts-then}
+use Rattle.text.specs.Text.{FEED, MINUS, ZERO, SAMPLES, POSITION, DOUBLES, decimal, numeral, lineOf, textOf}
 use Rattle.text.specs.declared.report.Report.{Report}
 use Rattle.text.proofs.DecimalLaws.{decimal-some, decimal-one, decimal-more, decimal-length}
-
--- The first bytes of a run from a place on, and one more.
-pub sets-next : (b : List ℕ) (at : ℕ) (bytes : List ℕ) (i : ℕ) → i < length bytes →
-    set (sets b at (take i bytes)) (at + i) (getD bytes i 0) ≡ sets b at (take (i + 1) bytes)
-sets-next b at bytes i h =
-    rw (add-one, take-suc bytes i 0 h) (sets-then b at (at + i) (take i bytes) (getD bytes i 0 ∷ []) (ap (λ (k : ℕ). at + k) (length-take-le i bytes (omega arith))))
-
--- Bytes, and bytes behind them, are bytes in a row.
-pub puts-then : {xs ys b m d : List ℕ} {at j r : ℕ} → Puts xs b at m j → Puts ys m j d r → Puts (xs ++ ys) b at d r
-puts-then {xs} {ys} {b} {m} {d} {at} {j} {r} p q = record {
-  buffer = q .buffer ∙ ap (λ (l : List ℕ). sets l j ys) (p .buffer) ∙ sets-then b at j xs ys (sym (p .behind));
-  behind = simp length-append (omega (arith, p .behind, q .behind));
-}
 
 -- ---- a number's digits
 

@@ -3,9 +3,9 @@ use Prim.Native.Nat.{_-_, _≤_}
 use native.Mathlib.Omega.{arith}
 use lib.ListN.{length, take, length-set}
 use lib.Seq.{sets, take-all}
-use Rattle.text.proofs.TextLaws.{sets-next}
-use Rattle.text.proofs.put.put_bytes.Statement.{statement}
-use Rattle.text.proofs.put.put_bytes.Tie as tie
+use Rattle.tagged.proofs.StoreLaws.{sets-next}
+use Rattle.tagged.proofs.bytes.put_bytes.Statement.{statement}
+use Rattle.tagged.proofs.bytes.put_bytes.Tie as tie
 
 abbrev Inv-loop : tie.InvT-loop
 Inv-loop out₀ at bytes i₀ out i = (i ≤ length bytes) × (length out ≡ length out₀) × (out ≡ sets out₀ at (take i bytes))
