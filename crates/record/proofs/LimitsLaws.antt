@@ -17,7 +17,8 @@ use Rattle.axis.specs.Config.{sampledConfig, counterConfig, goodConfig}
 use Rattle.record.specs.declared.answer.Saved.{Saved}
 use Rattle.axis.proofs.TestLaws.{both as and-true}
 use Rattle.axis.proofs.ConfigLaws.{sampled-setting, counter-setting}
-use Rattle.record.specs.Record.{knownKind, within}
+use Rattle.record.specs.AxisFields.{knownKind}
+use Rattle.record.specs.Record.{withinLimits}
 
 -- ---- either of two tests
 
@@ -78,9 +79,9 @@ good-config c h = ⊎-elim first second (or-true (sampledConfig k d w t) (counte
     second : counterConfig k d w t ≡ true → Good c
     second g = let s = counter-setting k d w t g in counter (eq-eqb k COUNTER (s .kind)) (s .wide) (s .depth) (s .turn)
 
-module _ (s : Saved) (h : within s ≡ true) where
+module _ (s : Saved) (h : withinLimits s ≡ true) where
   both : (goodConfig (s .config .kind) (s .config .depth) (s .config .width) (s .config .turn) ≡ true) × (inRange (s .position) ≡ true)
-  unfolding within
+  unfolding withinLimits
   both = and-true (goodConfig (s .config .kind) (s .config .depth) (s .config .width) (s .config .turn)) (inRange (s .position)) h
 
   pub within-config : Good (s .config)

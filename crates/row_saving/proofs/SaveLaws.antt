@@ -26,7 +26,7 @@ use Rattle.axis_sound.proofs.PassLaws.{sampled-config}
 use Rattle.axis_sound.proofs.SoundLaws.{sampled-gives, counter-gives, counter-config, packed-again}
 use Rattle.tagged.specs.Bytes.{AllBytes}
 use Rattle.record.specs.Answer.{writtenNumber}
-use Rattle.record.specs.Record.{within, readAs, recordOf, savedAs, written}
+use Rattle.record.specs.Record.{withinLimits, readAs, recordOf, savedAs, written}
 use Rattle.record.specs.declared.answer.Saved.{Saved}
 use Rattle.record.specs.declared.answer.Read.{Read}
 use Rattle.record.specs.declared.answer.Read.the-variants.{Accepted, Refused as Unread}
@@ -43,13 +43,13 @@ use Rattle.row_calls.proofs.ReasonLaws.{Past, both-kinds}
 use Rattle.row_calls.proofs.SetupLaws.{config-holds}
 
 -- What is within its limits is a configuration and a position.
-pub within-parts : (s : Saved) → within s ≡ true →
+pub within-parts : (s : Saved) → withinLimits s ≡ true →
     (goodConfig (s .config .kind) (s .config .depth) (s .config .width) (s .config .turn) ≡ true) × (inRange (s .position) ≡ true)
-unfolding within
+unfolding withinLimits
 within-parts s e = both (goodConfig (s .config .kind) (s .config .depth) (s .config .width) (s .config .turn)) (inRange (s .position)) e
 
 -- The row of what a record says holds the axis that it says.
-said-holds : (said : Saved) → within said ≡ true →
+said-holds : (said : Saved) → withinLimits said ≡ true →
     Holds (rowOf (freshAt (said .config) (wordOf (said .position)))) (cond (sampledKind (said .config .kind)) Sampled Counter) (freshAt (said .config) (wordOf (said .position)))
 said-holds said e =
     let p = within-parts said e in
@@ -90,8 +90,8 @@ unfolding goodConfig
 counter-good k d v n e = either (sampledConfig k d v n) (counterConfig k d v n) (λ _. e)
 
 -- The configuration and the position of a sound row are within their limits.
-saved-within : (r : Row) → Live r → within (savedOf (axisOf r)) ≡ true
-unfolding within
+saved-within : (r : Row) → Live r → withinLimits (savedOf (axisOf r)) ≡ true
+unfolding withinLimits
 saved-within r (inl e) =
     let s = sampled-gives r e in
     let a = axisOf r in
@@ -176,9 +176,9 @@ saved-restore s b r q all e room = go (readAs s) refl
 
 save-past : (room : ℕ) (s : Saved) → Past (writtenNumber (savedAs room s))
 unfolding Past savedAs
-save-past room s = go (test (within s)) (test (leb (length (recordOf s)) room))
+save-past room s = go (test (withinLimits s)) (test (leb (length (recordOf s)) room))
   where
-    go : Tested (within s) → Tested (leb (length (recordOf s)) room) → Past (writtenNumber (savedAs room s))
+    go : Tested (withinLimits s) → Tested (leb (length (recordOf s)) room) → Past (writtenNumber (savedAs room s))
     go (no g) t = rw g (inr (lit< tt))
     go (yes g) (yes h) = rw (g, h) (inl refl)
     go (yes g) (no h) = rw (g, h) (inr (lit< tt))

@@ -28,7 +28,7 @@ use Rattle.axis_sound.specs.declared.Status.{Status}
 use Rattle.axis_sound.specs.declared.Status.the-variants.{Empty, Sampled, Counter, Broken}
 use Rattle.record.specs.Answer.{writtenNumber}
 use Rattle.record.specs.Order.{Judged, other-layout, bad-nine, bad-kind, bad-rest, bad-value, all-good}
-use Rattle.record.specs.Record.{readAs, within, recordOf, savedAs}
+use Rattle.record.specs.Record.{readAs, withinLimits, recordOf, savedAs}
 use Rattle.record.specs.declared.answer.Read.{Read}
 use Rattle.record.specs.declared.answer.Saved.{Saved}
 use Rattle.record.specs.declared.answer.Written.the-variants.{Bytes, Refused as Unwritten}
@@ -205,7 +205,7 @@ unfolding savedAs
 saved-late room s =
     let size = length (recordOf s) in
     let fitted = either writtenNumber Axis (leb size room) (Bytes size) (Unwritten Room) (inl refl) (inr (lit< tt)) in
-    either writtenNumber Axis (within s) _ _ fitted (inr (lit< tt))
+    either writtenNumber Axis (withinLimits s) _ _ fitted (inr (lit< tt))
 
 pub save-late : (room : ℕ) (r : Row) → After Axis (writtenNumber (saveRow room r))
 unfolding saveRow

@@ -133,16 +133,18 @@ module _ (s : List ℕ) (at tag : ℕ) (value rest : List ℕ) (e : drop at s �
   holds-back =
       let first : getD s at 0 ≡ tag = rw add-zero at (sym (getD-drop at s 0 0)) ∙ ap (λ (r : List ℕ). getD r 0 0) e in
       let sized : numberAt s (at + 1) 2 ≡ length value =
-        ap (λ (r : List ℕ). numberIn (take 2 r)) (sym (drop-drop 1 at s) ∙ ap (drop 1) e) ∙ number-back 2 (length value) l in
-      let held = ap (take (length value)) (behind s (headBytes tag (length value)) (value ++ rest) at e) in
-      (rw (le-leb (at + 3 + length value) (length s) room, first, sized, eq-eqb tag tag refl, eq-eqb (length value) (length value) refl),
-      held ∙ take-append-seam value rest)
+      ap (λ (r : List ℕ). numberIn (take 2 r)) (sym (drop-drop 1 at s) ∙ ap (drop 1) e) ∙ number-back 2 (length value) l in
+      let held = ap (take (length value)) (behind s (headBytes tag (length value)) (value ++ rest) at e) in (
+        rw (le-leb (at + 3 + length value) (length s) room, first, sized, eq-eqb tag tag refl, eq-eqb (length value) (length value) refl),
+        held ∙ take-append-seam value rest,
+      )
 
--- HEADLINE: a number field that was written at a place is read there.
+-- HEADLINE: a number field that was written at a place is read there, and the next begins behind it.
 pub field-back : (s : List ℕ) (at tag n v : ℕ) (rest : List ℕ) → drop at s ≡ fieldBytes tag n v ++ rest → n < 256 ^ 2 → v < 256 ^ n →
-    fieldAt s at tag n ≡ Value v (at + 3 + n)
+    (fieldAt s at tag n ≡ Value v (at + 3 + n)) × (drop (at + 3 + n) s ≡ rest)
 unfolding fieldAt fieldBytes
 field-back s at tag n v rest e l h =
     let k = length-bytesOf n v in
     let b = rw k at (holds-back s at tag (bytesOf n v) rest e (rw k l)) in
-    rw (b .0, b .1, number-back n v h)
+    let long : at + length (fieldBytes tag n v) ≡ at + 3 + n = simp length-append (omega (arith, k, length-bytesOf 2 (length (bytesOf n v)))) in
+    (rw (b .0, b .1, number-back n v h), ap (λ (i : ℕ). drop i s) (sym long) ∙ behind s (fieldBytes tag n v) rest at e)

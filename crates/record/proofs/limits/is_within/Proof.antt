@@ -2,7 +2,7 @@ use borrow.Author.Needs.{needs}
 use mir.Syntax.{w64}
 use mir.Val.{SFits}
 use Rattle.integers.proofs.Machine.{back}
-use Rattle.record.specs.Record.{within}
+use Rattle.record.specs.Record.{withinLimits}
 use Rattle.record.proofs.limits.is_within.Statement.{statement}
 use Rattle.record.proofs.limits.is_within.Tie as tie
 
@@ -25,7 +25,7 @@ in-range-requires : tie.Need-in-range-requires
 in-range-requires c κs = search needs
 
 returns : tie.Need-returns
-unfolding within
+unfolding withinLimits
 returns c =
     let st = c .before .before .before .before .before .before .before .before in
     let f : SFits w64 (st .args .saved .position) = search needs in

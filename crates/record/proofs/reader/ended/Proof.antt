@@ -11,7 +11,8 @@ use mir.Facts.{sfits-toZ}
 use Rattle.integers.proofs.Machine.{back}
 use Rattle.record.specs.declared.answer.Read.the-variants.{Accepted}
 use Rattle.tagged.specs.declared.field.Field.the-variants.{Value}
-use Rattle.record.specs.Record.{endedAt, within, saying, END}
+use Rattle.record.specs.Record.{endedAt, withinLimits, saying}
+use Rattle.record.specs.Tags.{endTag}
 use Rattle.tagged.specs.Field.{fieldAt}
 use Rattle.record.proofs.reader.ended.Statement.{statement}
 use Rattle.record.proofs.reader.ended.Tie as tie
@@ -21,7 +22,7 @@ module _ (c : tie.After-at) where
   start = c .before .before .before .before
 
   -- the end field that was read
-  found : fieldAt (start .args .slice .now) (start .args .at) END 0 ≡ Value (c .at .given .0 .0) (c .at .given .0 .1 .0)
+  found : fieldAt (start .args .slice .now) (start .args .at) endTag 0 ≡ Value (c .at .given .0 .0) (c .at .given .0 .1 .0)
   found = sym (c .before .before .read-field .ensures) ∙ c .at .given .1
 
 -- nothing comes after it
@@ -35,7 +36,7 @@ module _ (c : tie.After-of-bits) where
   placed : toZ w64 (ofZ w64 (c .of-bits .result)) ≡ toZ w64 (st .args .bits)
   placed = rw (c .of-bits .ensures) (back (sfits-toZ {w = w64} (st .fits .bits)))
 
-limits : (c : tie.After-is-within) → within (saying (st (c .before) .args .config) (st (c .before) .args .bits)) ≡ c .is-within .result
+limits : (c : tie.After-is-within) → withinLimits (saying (st (c .before) .args .config) (st (c .before) .args .bits)) ≡ c .is-within .result
 limits c = rw (← (placed (c .before))) (sym (c .is-within .ensures))
 
 read-field-requires : tie.Need-read-field-requires

@@ -49,12 +49,12 @@ number-requires : tie.Need-number-requires
 number-requires c κs = search needs
 
 returns-3 : tie.Need-returns-3
-returns-3 c = 
+returns-3 c =
     let f = c .before .before .before .before in
     whole _ _ _ _ (found f) (omega (arith, head-told _ _ (found f))) (c .before .if2 .taken) (c .number .ensures)
 
 returns-4 : tie.Need-returns-4
-returns-4 c = 
+returns-4 c =
     let f = c .before .before .before in
     headless _ _ _ _ (found f) (omega (arith, head-told _ _ (found f))) (c .if2 .left)
 

@@ -2,17 +2,18 @@ use borrow.Author.Needs.{needs}
 use mathlib.Core.Path.{_≡_, sym, _∙_}
 use Rattle.tagged.specs.declared.field.Field.the-variants.{Value}
 use Rattle.tagged.specs.Bytes.{AllBytes}
-use Rattle.record.specs.Record.{unopened, LAYOUT}
+use Rattle.record.specs.Record.{layoutRefusal}
+use Rattle.record.specs.Tags.{layoutTag}
 use Rattle.tagged.specs.Field.{fieldAt}
 use Rattle.tagged.proofs.FieldLaws.{field-below}
-use Rattle.record.proofs.reader.why_unopened.Statement.{statement}
-use Rattle.record.proofs.reader.why_unopened.Tie as tie
+use Rattle.record.proofs.reader.layout_refusal.Statement.{statement}
+use Rattle.record.proofs.reader.layout_refusal.Tie as tie
 
 module _ (c : tie.After-layout) where
   bytes : AllBytes (c .before .before .before .before .args .slice .now)
   bytes k = c .before .before .before .shared-slice-known .given k .fits
 
-  found : fieldAt (c .before .before .before .before .args .slice .now) 0 LAYOUT 2 ≡ Value (c .layout .given .0 .0) (c .layout .given .0 .1 .0)
+  found : fieldAt (c .before .before .before .before .args .slice .now) 0 layoutTag 2 ≡ Value (c .layout .given .0 .0) (c .layout .given .0 .1 .0)
   found = sym (c .before .before .read-field .ensures) ∙ c .layout .given .1
 
 read-field-requires : tie.Need-read-field-requires
@@ -25,16 +26,16 @@ enum-told : tie.Need-enum-told
 enum-told c = search needs
 
 returns : tie.Need-returns
-unfolding unopened
+unfolding layoutRefusal
 returns c = rw (sym (c .before .before .read-field .ensures) ∙ c .enum-told .given .1)
 
 cast-t4 : tie.Need-cast-t4
-cast-t4 c = record { fits = field-below (c .before .before .before .before .before .args .slice .now) 0 LAYOUT 2 (bytes (c .before)) (found (c .before)) }
+cast-t4 c = record { fits = field-below (c .before .before .before .before .before .args .slice .now) 0 layoutTag 2 (bytes (c .before)) (found (c .before)) }
 
 returns-2 : tie.Need-returns-2
-unfolding unopened
+unfolding layoutRefusal
 returns-2 c = rw (found (c .before))
 
-pub why-unopened-spec : {M : Type 1} → statement M
-why-unopened-spec =
+pub layout-refusal-spec : {M : Type 1} → statement M
+layout-refusal-spec =
     tie.close (tie.spec read-field-requires enum-known-layout enum-told returns cast-t4 returns-2)

@@ -1,6 +1,6 @@
 use borrow.Author.Needs.{needs}
-use Rattle.record.proofs.reader.is_known.Statement.{statement}
-use Rattle.record.proofs.reader.is_known.Tie as tie
+use Rattle.record.proofs.axis_fields.is_known.Statement.{statement}
+use Rattle.record.proofs.axis_fields.is_known.Tie as tie
 
 is-sampled-requires : tie.Need-is-sampled-requires
 is-sampled-requires c κs = search needs

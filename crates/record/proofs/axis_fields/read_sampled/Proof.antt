@@ -2,11 +2,12 @@ use borrow.Author.Needs.{needs}
 use mathlib.Core.Path.{_≡_, sym, _∙_}
 use Rattle.tagged.specs.declared.field.Field.the-variants.{Value}
 use Rattle.tagged.specs.Bytes.{AllBytes}
-use Rattle.record.specs.Record.{sampledAt, DEPTH, TURN}
+use Rattle.record.specs.AxisFields.{sampledAt}
+use Rattle.record.specs.Tags.{depthTag, turnTag}
 use Rattle.tagged.specs.Field.{fieldAt}
 use Rattle.tagged.proofs.FieldLaws.{field-below}
-use Rattle.record.proofs.reader.read_sampled.Statement.{statement}
-use Rattle.record.proofs.reader.read_sampled.Tie as tie
+use Rattle.record.proofs.axis_fields.read_sampled.Statement.{statement}
+use Rattle.record.proofs.axis_fields.read_sampled.Tie as tie
 
 module _ (c : tie.After-depth) where
   abbrev start : tie.Start
@@ -16,7 +17,7 @@ module _ (c : tie.After-depth) where
   bytes k = c .before .before .before .shared-slice-known .given k .fits
 
   -- the depth that was read
-  deep : fieldAt (start .args .slice .now) (start .args .at) DEPTH 1 ≡ Value (c .depth .given .0 .0) (c .depth .given .0 .1 .0)
+  deep : fieldAt (start .args .slice .now) (start .args .at) depthTag 1 ≡ Value (c .depth .given .0 .0) (c .depth .given .0 .1 .0)
   deep = sym (c .before .before .read-field .ensures) ∙ c .depth .given .1
 
 module _ (c : tie.After-turn) where
@@ -24,7 +25,7 @@ module _ (c : tie.After-turn) where
   d = c .before .before .before .before
 
   -- the counts per turn that were read
-  turns : fieldAt (start d .args .slice .now) (d .depth .given .0 .1 .0) TURN 4 ≡ Value (c .turn .given .0 .0) (c .turn .given .0 .1 .0)
+  turns : fieldAt (start d .args .slice .now) (d .depth .given .0 .1 .0) turnTag 4 ≡ Value (c .turn .given .0 .0) (c .turn .given .0 .1 .0)
   turns = sym (c .before .before .read-field2 .ensures) ∙ c .turn .given .1
 
 read-field-requires : tie.Need-read-field-requires
@@ -56,21 +57,18 @@ returns-2 c = rw (deep (c .before .before .before .before), sym (c .before .befo
 cast-depth : tie.Need-cast-depth
 cast-depth c =
     let a = d (c .before) in
-    record { fits = field-below (start a .args .slice .now) (start a .args .at) DEPTH 1 (bytes a) (deep a) }
+    record { fits = field-below (start a .args .slice .now) (start a .args .at) depthTag 1 (bytes a) (deep a) }
 
 cast-turn : tie.Need-cast-turn
 cast-turn c =
     let a = d (c .before) in
-    record { fits = field-below (start a .args .slice .now) (a .depth .given .0 .1 .0) TURN 4 (bytes a) (turns (c .before)) }
-
-ended-requires : tie.Need-ended-requires
-ended-requires c κs = search needs
+    record { fits = field-below (start a .args .slice .now) (a .depth .given .0 .1 .0) turnTag 4 (bytes a) (turns (c .before)) }
 
 returns-3 : tie.Need-returns-3
 unfolding sampledAt
 returns-3 c =
-    let t = c .before .before in
-    rw (deep (d t), turns t) (c .ended .ensures)
+    let t = c .before in
+    rw (deep (d t), turns t)
 
 pub read-sampled-spec : {M : Type 1} → statement M
 read-sampled-spec =
@@ -86,5 +84,4 @@ read-sampled-spec =
     returns-2
     cast-depth
     cast-turn
-    ended-requires
     returns-3)

@@ -3,10 +3,10 @@ use mathlib.Core.Path.{_≡_, sym}
 use Prim.Native.Nat.{ℕ, _-_, _≤_, _<_}
 use native.Mathlib.Omega.{arith}
 use lib.ListN.{getD}
-use Rattle.opening.specs.Opening.{opening}
+use Rattle.record.specs.Opening.{opening}
 use Rattle.tagged.proofs.BytesLaws.{starts-yes, starts-no, starts-short}
-use Rattle.opening.proofs.opens.Statement.{statement}
-use Rattle.opening.proofs.opens.Tie as tie
+use Rattle.record.proofs.opening.opens.Statement.{statement}
+use Rattle.record.proofs.opening.opens.Tie as tie
 
 abbrev Inv-loop : tie.InvT-loop
 Inv-loop slice i₀ i = (i ≤ 5) × ((k : ℕ) → k < i → getD slice k 0 ≡ getD opening k 0)

@@ -1,0 +1,121 @@
+use borrow.Author.Needs.{needs}
+use mathlib.Core.Path.{_≡_, sym, _∙_}
+use mathlib.Core.Bool.{true}
+use borrow.Author.Tests.{not-true, not-false}
+use mir.Syntax.{w8}
+use mir.Val.{Fits}
+use Rattle.tagged.specs.declared.field.Field.the-variants.{Value}
+use Rattle.tagged.specs.Field.{fieldAt}
+use Rattle.tagged.proofs.FieldLaws.{field-below}
+use Rattle.record.specs.Tags.{kindTag, positionTag}
+use Rattle.record.specs.AxisFields.{axisAt, knownKind}
+use Rattle.record.proofs.axis_fields.read_axis.Statement.{statement}
+use Rattle.record.proofs.axis_fields.read_axis.Tie as tie
+
+module _ (c : tie.After-kind) where
+  abbrev start : tie.Start
+  start = c .before .before .before .before
+
+  -- the kind that was read
+  kinds : fieldAt (start .args .slice .now) (start .args .at) kindTag 1 ≡ Value (c .kind .given .0 .0) (c .kind .given .0 .1 .0)
+  kinds = sym (c .before .before .read-field .ensures) ∙ c .kind .given .1
+
+known : (c : tie.Else1) → knownKind (c .before .before .before .kind .given .0 .0) ≡ true
+known c = sym (c .before .is-known .ensures) ∙ not-false _ (c .if1 .left)
+
+module _ (c : tie.After-bits) where
+  abbrev k : tie.After-kind
+  k = c .before .before .before .before .before .before
+
+  -- the position that was read
+  placed : fieldAt (start k .args .slice .now) (k .kind .given .0 .1 .0) positionTag 8 ≡ Value (c .bits .given .0 .0) (c .bits .given .0 .1 .0)
+  placed = sym (c .before .before .read-field2 .ensures) ∙ c .bits .given .1
+
+  byte : Fits w8 (k .kind .given .0 .0)
+  byte = record {
+    fits = field-below (start k .args .slice .now) (start k .args .at) kindTag 1 (λ i. k .before .before .before .shared-slice-known .given i .fits) (kinds k);
+  }
+
+read-field-requires : tie.Need-read-field-requires
+read-field-requires c κs = search needs
+
+enum-known-kind : tie.Need-enum-known-kind
+enum-known-kind c = search needs
+
+enum-told : tie.Need-enum-told
+enum-told c = search needs
+
+returns : tie.Need-returns
+unfolding axisAt
+returns c = rw (sym (c .before .before .read-field .ensures) ∙ c .enum-told .given .1)
+
+is-known-requires : tie.Need-is-known-requires
+is-known-requires c κs = search needs
+
+returns-2 : tie.Need-returns-2
+unfolding axisAt
+returns-2 c = rw (kinds (c .before .before .before), sym (c .before .is-known .ensures) ∙ not-true _ (c .if1 .taken))
+
+read-field-requires-2 : tie.Need-read-field-requires-2
+read-field-requires-2 c κs = search needs
+
+enum-known-bits : tie.Need-enum-known-bits
+enum-known-bits c = search needs
+
+enum-told-2 : tie.Need-enum-told-2
+enum-told-2 c = search needs
+
+returns-3 : tie.Need-returns-3
+unfolding axisAt
+returns-3 c =
+    let a = c .before .before .before .before .before .before in
+    rw (kinds a, known (c .before .before .before), sym (c .before .before .read-field2 .ensures) ∙ c .enum-told2 .given .1)
+
+is-counter-requires : tie.Need-is-counter-requires
+is-counter-requires c κs = search needs
+
+cast-read-counter : tie.Need-cast-read-counter
+cast-read-counter c = byte (c .before .before .before)
+
+read-counter-requires : tie.Need-read-counter-requires
+read-counter-requires c κs = search needs
+
+cast-read-sampled : tie.Need-cast-read-sampled
+cast-read-sampled c = byte (c .before .before .before)
+
+read-sampled-requires : tie.Need-read-sampled-requires
+read-sampled-requires c κs = search needs
+
+returns-4 : tie.Need-returns-4
+unfolding axisAt
+returns-4 c =
+    let b = c .before .before .before .before in
+    rw (kinds (k b), known (b .before .before .before), placed b, sym (c .before .before .is-counter .ensures) ∙ c .before .if2 .taken) (c .read-counter .ensures)
+
+returns-5 : tie.Need-returns-5
+unfolding axisAt
+returns-5 c =
+    let b = c .before .before .before .before in
+    rw (kinds (k b), known (b .before .before .before), placed b, sym (c .before .before .is-counter .ensures) ∙ c .before .if2 .left) (c .read-sampled .ensures)
+
+pub read-axis-spec : {M : Type 1} → statement M
+read-axis-spec =
+    tie.close
+    (tie.spec
+    read-field-requires
+    enum-known-kind
+    enum-told
+    returns
+    is-known-requires
+    returns-2
+    read-field-requires-2
+    enum-known-bits
+    enum-told-2
+    returns-3
+    is-counter-requires
+    cast-read-counter
+    read-counter-requires
+    cast-read-sampled
+    read-sampled-requires
+    returns-4
+    returns-5)
