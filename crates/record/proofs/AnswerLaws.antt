@@ -7,7 +7,8 @@ use Rattle.record.specs.declared.answer.Verdict.{Verdict}
 use Rattle.record.specs.declared.answer.Verdict.the-variants.{Accepted as Passed, Refused as Failed}
 use Rattle.record.specs.declared.answer.Written.{Written}
 use Rattle.record.specs.declared.answer.Written.the-variants.{Bytes, Refused as Unwritten}
-use Rattle.record.specs.Answer.{readNumber, readFound, readSaved, testedNumber, testedFound, writtenNumber, writtenFound, writtenBytes}
+use Rattle.record.specs.Answer.{readNumber, readFound, readSaved, testedNumber, testedFound}
+use Rattle.record.specs.Answer.{writtenNumber, writtenFound, writtenBytes}
 
 -- HEADLINE: the number, the number found and what is said determine what a reading answers.
 pub read-told : (a b : Read) → readNumber a ≡ readNumber b → readFound a ≡ readFound b → readSaved a ≡ readSaved b → a ≡ b
@@ -24,7 +25,8 @@ test-told (Failed r) Passed n f = absurd (above-zero r n)
 test-told (Failed r) (Failed q) n f = ap Failed (told-apart r q n f)
 
 -- HEADLINE: the number, the number found and the number of bytes determine what a save answers.
-pub save-told : (a b : Written) → writtenNumber a ≡ writtenNumber b → writtenFound a ≡ writtenFound b → writtenBytes a ≡ writtenBytes b → a ≡ b
+pub save-told : (a b : Written) →
+    writtenNumber a ≡ writtenNumber b → writtenFound a ≡ writtenFound b → writtenBytes a ≡ writtenBytes b → a ≡ b
 save-told (Bytes m) (Bytes n) _ f v = ap Bytes v
 save-told (Bytes m) (Unwritten r) n f v = absurd (above-zero r (sym n))
 save-told (Unwritten r) (Bytes m) n f v = absurd (above-zero r n)

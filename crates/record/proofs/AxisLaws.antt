@@ -1,5 +1,4 @@
--- The laws of one axis's fields, written and read at any place: what is written there is read there, and what is read there is what would be
--- written.
+-- The laws of one axis's fields at any place: what is written there is read there, and what is read there is what would be written.
 use mathlib.Core.Path.{_≡_, refl, sym, ap, _∙_}
 use mathlib.Core.Bool.{Bool, true, false, cond}
 use mathlib.Core.List.{List, _++_, append-assoc}
@@ -10,7 +9,7 @@ use lib.Dec.{lit<}
 use lib.ListN.{length, drop}
 use lib.Seq.{drop-append-seam}
 use mir.Syntax.{w64}
-use mir.Val.{toZ, ofZ}
+use mir.Val.{Fits, toZ, ofZ}
 use mir.Facts.{fits-ofZ, toZ-ofZ, ofZ-toZ}
 use Rattle.integers.proofs.Balance.{Tested, yes, no, test}
 use Rattle.refusal.specs.declared.Refusal.{Refusal}
@@ -26,7 +25,8 @@ use Rattle.record.specs.declared.answer.Saved.{Saved}
 use Rattle.record.specs.declared.axis_fields.AxisRead.{AxisRead}
 use Rattle.record.specs.declared.axis_fields.AxisRead.the-variants.{Said, Refused}
 use Rattle.record.specs.Tags.{kindTag, positionTag, depthTag, widthTag, turnTag}
-use Rattle.record.specs.AxisFields.{knownKind, counterAs, sampledAs, counterAt, sampledAt, axisAt, frontBytes, settingBytes, axisBytes, axisLength}
+use Rattle.record.specs.AxisFields.{knownKind, counterAs, sampledAs, counterAt, sampledAt, axisAt}
+use Rattle.record.specs.AxisFields.{frontBytes, settingBytes, axisBytes, axisLength}
 use Rattle.record.specs.Record.{withinLimits, saying}
 use Rattle.record.proofs.OrderLaws.{on-field}
 use Rattle.record.proofs.LimitsLaws.{sampled-kind, known-counter, Good, sampled, counter, within-config, within-position}
@@ -53,12 +53,15 @@ length-bounds k = go (counterKind k)
 same : (c : Config) {d v t : ℕ} → c .depth ≡ d → c .width ≡ v → c .turn ≡ t → record { kind = c .kind; depth = d; width = v; turn = t } ≡ c
 same c d v t = rw (← d, ← v, ← t)
 
-module _ (s : List ℕ) (saved : Saved) (at : ℕ) (rest : List ℕ) (w : withinLimits saved ≡ true) (e : drop at s ≡ axisBytes saved ++ rest) where
+module _ (s : List ℕ) (x : Saved) (at : ℕ) (w : withinLimits x ≡ true) (rest : List ℕ) (e : drop at s ≡ axisBytes x ++ rest) where
   abbrev c : Config
-  c = saved .config
+  c = x .config
 
   abbrev bits : ℕ
-  bits = ofZ w64 (saved .position)
+  bits = ofZ w64 (x .position)
+
+  abbrev next : ℕ
+  next = at + length (axisBytes x)
 
   front : c .kind < 256 →
       (fieldAt s at kindTag 1 ≡ Value (c .kind) (at + 3 + 1)) × (fieldAt s (at + 3 + 1) positionTag 8 ≡ Value bits (at + 3 + 1 + 3 + 8))
@@ -66,36 +69,36 @@ module _ (s : List ℕ) (saved : Saved) (at : ℕ) (rest : List ℕ) (w : within
   unfolding axisBytes frontBytes
   front h =
       let k = field-back s at kindTag 1 (c .kind) _ (simp append-assoc at e) (lit< tt) h in
-      let q = field-back s (at + 3 + 1) positionTag 8 bits _ (k .1) (lit< tt) (fits-ofZ {w = w64} (within-position saved w) .fits) in
+      let q = field-back s (at + 3 + 1) positionTag 8 bits _ (k .1) (lit< tt) (fits-ofZ {w = w64} (within-position x w) .fits) in
       (k .0, q .0, q .1)
 
-  by : Good c → axisAt s at ≡ Said c bits (at + length (axisBytes saved))
+  by : Good c → axisAt s at ≡ Said c bits next
   unfolding axisAt counterAt sampledAt settingBytes
   by (counter ck hw d t) =
       let f = front (omega (arith, eqb-true (c .kind) COUNTER ck)) in
       let u = field-back s (at + 3 + 1 + 3 + 8) widthTag 1 (c .width) rest (f .2 ∙ rw ck) (lit< tt) (omega arith) in
-      let n : length (axisBytes saved) ≡ 19 = axis-long saved ∙ rw ck in
-      let place : at + 3 + 1 + 3 + 8 + 3 + 1 ≡ at + length (axisBytes saved) = omega arith in
-      rw (f .0, known-counter (c .kind) ck, f .1, ck, u .0, place) (ap (λ (x : Config). Said x bits (at + length (axisBytes saved))) (same c d refl t))
+      let n : length (axisBytes x) ≡ 19 = axis-long x ∙ rw ck in
+      let place : at + 3 + 1 + 3 + 8 + 3 + 1 ≡ next = omega arith in
+      rw (f .0, known-counter (c .kind) ck, f .1, ck, u .0, place) (ap (λ (z : Config). Said z bits next) (same c d refl t))
   by (sampled sk hd v ht) =
       let k = sampled-kind (c .kind) sk in
       let f = front (k .byte) in
       let settings : settingBytes c ++ rest ≡ fieldBytes depthTag 1 (c .depth) ++ (fieldBytes turnTag 4 (c .turn) ++ rest) =
       rw (k .other) (append-assoc (fieldBytes depthTag 1 (c .depth)) (fieldBytes turnTag 4 (c .turn)) rest) in
       let u = field-back s (at + 3 + 1 + 3 + 8) depthTag 1 (c .depth) _ (f .2 ∙ settings) (lit< tt) (omega arith) in
-      let x = field-back s (at + 3 + 1 + 3 + 8 + 3 + 1) turnTag 4 (c .turn) rest (u .1) (lit< tt) ht in
-      let n : length (axisBytes saved) ≡ 26 = axis-long saved ∙ rw (k .other) in
-      let place : at + 3 + 1 + 3 + 8 + 3 + 1 + 3 + 4 ≡ at + length (axisBytes saved) = omega arith in
-      rw (f .0, sk, f .1, k .other, u .0, x .0, place) (ap (λ (x : Config). Said x bits (at + length (axisBytes saved))) (same c refl v refl))
+      let y = field-back s (at + 3 + 1 + 3 + 8 + 3 + 1) turnTag 4 (c .turn) rest (u .1) (lit< tt) ht in
+      let n : length (axisBytes x) ≡ 26 = axis-long x ∙ rw (k .other) in
+      let place : at + 3 + 1 + 3 + 8 + 3 + 1 + 3 + 4 ≡ next = omega arith in
+      rw (f .0, sk, f .1, k .other, u .0, y .0, place) (ap (λ (z : Config). Said z bits next) (same c refl v refl))
 
   -- HEADLINE: an axis's fields that were written at a place are read there, and the next field begins behind them.
-  pub axis-back : axisAt s at ≡ Said c bits (at + length (axisBytes saved))
-  axis-back = by (within-config saved w)
+  pub axis-back : axisAt s at ≡ Said c bits next
+  axis-back = by (within-config x w)
 
 -- HEADLINE: so they are read between any bytes before and any bytes after.
 pub axis-between : (pre post : List ℕ) (s : Saved) → withinLimits s ≡ true →
     axisAt (pre ++ (axisBytes s ++ post)) (length pre) ≡ Said (s .config) (ofZ w64 (s .position)) (length pre + length (axisBytes s))
-axis-between pre post s w = axis-back (pre ++ (axisBytes s ++ post)) s (length pre) post w (drop-append-seam pre (axisBytes s ++ post))
+axis-between pre post s w = axis-back (pre ++ (axisBytes s ++ post)) s (length pre) w post (drop-append-seam pre (axisBytes s ++ post))
 
 -- HEADLINE: what is read there says what was written.
 pub said-back : (s : Saved) → withinLimits s ≡ true → saying (s .config) (ofZ w64 (s .position)) ≡ s
@@ -151,7 +154,8 @@ axis-again s at c bits next b h =
     let g = said-if (knownKind kind) VALUE (f .1) in
     let p = said-if (standsAt s (at + 3 + 1) positionTag 8) Record (rw on-field at (g .1)) in
     let q = go (test (counterKind kind)) (p .1) in
-    let back = sym (ofZ-toZ {w = w64} (record { fits = number-below s (at + 3 + 1 + 3) 8 b })) ∙ ap (λ (n : ℕ). ofZ w64 (toZ w64 n)) (q .is-bits) in
+    let held : Fits w64 found = record { fits = number-below s (at + 3 + 1 + 3) 8 b } in
+    let back = sym (ofZ-toZ {w = w64} held) ∙ ap (λ (n : ℕ). ofZ w64 (toZ w64 n)) (q .is-bits) in
     stands-is s at kindTag 1 b (f .0)
     ∙ rw (stands-is s (at + 3 + 1) positionTag 8 b (p .0), q .stands)
     (ap (λ (k : ℕ). fieldBytes kindTag 1 k ++ (fieldBytes positionTag 8 found ++ (settingBytes c ++ drop next s))) (q .is-kind)
@@ -167,7 +171,8 @@ axis-again s at c bits next b h =
     found : ℕ
     found = numberAt s (at + 3 + 1 + 3) 8
 
-    go : Tested (counterKind kind) → cond (counterKind kind) (counterAt s place kind found) (sampledAt s place kind found) ≡ Said c bits next →
+    go : Tested (counterKind kind) →
+        cond (counterKind kind) (counterAt s place kind found) (sampledAt s place kind found) ≡ Said c bits next →
         Settings s place kind found c bits next
     go (yes k) e = counter-again s b place kind found c bits next k (rw k at e)
     go (no k) e = sampled-again s b place kind found c bits next k (rw k at e)

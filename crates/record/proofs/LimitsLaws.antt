@@ -36,7 +36,9 @@ pub record Sampled (k : ℕ) : Type 0 where
 pub sampled-kind : (k : ℕ) → sampledKind k ≡ true → Sampled k
 sampled-kind k h =
     ⊎-elim
-    (λ g. ⊎-elim (λ f. at X1 (eqb-true k X1 f) refl (omega arith)) (λ f. at X2 (eqb-true k X2 f) refl (omega arith)) (or-true (eqb k X1) (eqb k X2) g))
+    (λ g.
+    ⊎-elim (λ f. at X1 (eqb-true k X1 f) refl (omega arith)) (λ f. at X2 (eqb-true k X2 f) refl (omega arith))
+    (or-true (eqb k X1) (eqb k X2) g))
     (λ f. at X4 (eqb-true k X4 f) refl (omega arith))
     (or-true (eqb k X1 || eqb k X2) (eqb k X4) h)
   where
@@ -80,12 +82,14 @@ good-config c h = ⊎-elim first second (or-true (sampledConfig k d w t) (counte
     second g = let s = counter-setting k d w t g in counter (eq-eqb k COUNTER (s .kind)) (s .wide) (s .depth) (s .turn)
 
 module _ (s : Saved) (h : withinLimits s ≡ true) where
-  both : (goodConfig (s .config .kind) (s .config .depth) (s .config .width) (s .config .turn) ≡ true) × (inRange (s .position) ≡ true)
+  -- It is a configuration and a position.
+  pub within-parts :
+      (goodConfig (s .config .kind) (s .config .depth) (s .config .width) (s .config .turn) ≡ true) × (inRange (s .position) ≡ true)
   unfolding withinLimits
-  both = and-true (goodConfig (s .config .kind) (s .config .depth) (s .config .width) (s .config .turn)) (inRange (s .position)) h
+  within-parts = and-true (goodConfig (s .config .kind) (s .config .depth) (s .config .width) (s .config .turn)) (inRange (s .position)) h
 
   pub within-config : Good (s .config)
-  within-config = good-config (s .config) (both .0)
+  within-config = good-config (s .config) (within-parts .0)
 
   pub within-position : SFits w64 (s .position)
-  within-position = fits-size (s .position) (omega (arith, range-is (s .position) (both .1)))
+  within-position = fits-size (s .position) (omega (arith, range-is (s .position) (within-parts .1)))

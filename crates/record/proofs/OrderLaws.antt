@@ -116,7 +116,8 @@ one-layout s n = go (starts opening s) (standsAt s 5 kindTag 1) (standsAt s 0 la
     go false u t h = absurd (subst T (sym h) tt)
 
 judged : (s : List ℕ) → Judged s (readAs s)
-judged s = go (test (otherLayout s)) (test (nineStand s)) (test (knownKind (kindIn s))) (test (restStands s)) (test (withinLimits (saidIn s)))
+judged s =
+    go (test (otherLayout s)) (test (nineStand s)) (test (knownKind (kindIn s))) (test (restStands s)) (test (withinLimits (saidIn s)))
   where
     go : Tested (otherLayout s) → Tested (nineStand s) → Tested (knownKind (kindIn s)) → Tested (restStands s) →
         Tested (withinLimits (saidIn s)) → Judged s (readAs s)

@@ -70,7 +70,8 @@ accepted-within s said h = passed s said h .limits
 -- ---- the test
 
 -- HEADLINE: the test accepts exactly the slices that the reader accepts.
-pub test-accepts : (s : List ℕ) → (testedAs s ≡ Passes → (said : Saved) × (readAs s ≡ Accepted said)) × ((said : Saved) → readAs s ≡ Accepted said → testedAs s ≡ Passes)
+pub test-accepts : (s : List ℕ) →
+    (testedAs s ≡ Passes → (said : Saved) × (readAs s ≡ Accepted said)) × ((said : Saved) → readAs s ≡ Accepted said → testedAs s ≡ Passes)
 test-accepts s = (go (readAs s), λ said h. rw h)
   where
     go : (r : Read) → testedOf r ≡ Passes → (said : Saved) × (r ≡ Accepted said)
@@ -78,7 +79,8 @@ test-accepts s = (go (readAs s), λ said h. rw h)
     go (Refused r) h = let z : _≡_ {A = ℕ} 0 1 = cc in absurd (omega arith)
 
 -- HEADLINE: the test refuses exactly the slices that the reader refuses, for the same reason.
-pub test-refuses : (s : List ℕ) (q : Refusal) → (testedAs s ≡ Fails q → readAs s ≡ Refused q) × (readAs s ≡ Refused q → testedAs s ≡ Fails q)
+pub test-refuses : (s : List ℕ) (q : Refusal) →
+    (testedAs s ≡ Fails q → readAs s ≡ Refused q) × (readAs s ≡ Refused q → testedAs s ≡ Fails q)
 test-refuses s q = (go (readAs s), λ h. rw h)
   where
     go : (r : Read) → testedOf r ≡ Fails q → r ≡ Refused q
@@ -109,11 +111,13 @@ other-opening n rest h other = rw (le-leb 5 (length s) (omega arith)) (go (test 
 
 -- HEADLINE: a slice that opens 01 00 02 and then a number other than 1 is refused by LAYOUT with that number, by reader and test,
 -- whatever follows.
-pub layout-refused : (n : ℕ) (rest : List ℕ) → n < 256 ^ 2 → (n ≡ 1 → ⊥) → (readAs (fieldBytes layoutTag 2 n ++ rest) ≡ Refused (Layout n)) × (testedAs (fieldBytes layoutTag 2 n ++ rest) ≡ Fails (Layout n))
+pub layout-refused : (n : ℕ) (rest : List ℕ) → n < 256 ^ 2 → (n ≡ 1 → ⊥) →
+    (readAs (fieldBytes layoutTag 2 n ++ rest) ≡ Refused (Layout n)) × (testedAs (fieldBytes layoutTag 2 n ++ rest) ≡ Fails (Layout n))
 unfolding fieldBytes bytesOf
 layout-refused n rest h other =
     let s = fieldBytes layoutTag 2 n ++ rest in
-    let e = exactly s (Refused (Layout n)) .1 (other-layout (other-opening n rest h other) (ap (λ (m : ℕ). Refused (Layout m)) (sym (number-back 2 n h)))) in
+    let found = ap (λ (m : ℕ). Refused (Layout m)) (sym (number-back 2 n h)) in
+    let e = exactly s (Refused (Layout n)) .1 (other-layout (other-opening n rest h other) found) in
     (e, test-refuses s (Layout n) .1 e)
 
 -- HEADLINE: no other slice is refused by LAYOUT, and the number is the one that stands there.
@@ -131,7 +135,8 @@ layout-found s n h = go (exactly s (Refused (Layout n)) .0 h)
 -- ---- the buffer of a save
 
 -- HEADLINE: where nothing is refused the record stands at the front, and every byte beyond it is as it was.
-pub saved-front : (b : List ℕ) (s : Saved) → withinLimits s ≡ true → length (recordOf s) ≤ length b → written b s ≡ recordOf s ++ drop (length (recordOf s)) b
+pub saved-front : (b : List ℕ) (s : Saved) → withinLimits s ≡ true → length (recordOf s) ≤ length b →
+    written b s ≡ recordOf s ++ drop (length (recordOf s)) b
 unfolding written
 saved-front b s w h = rw (w, le-leb (length (recordOf s)) (length b) h) (sets-eq (recordOf s) b 0 (rw zero-add h) ∙ rw zero-add)
 
@@ -140,7 +145,8 @@ pub refused-kept : (b : List ℕ) (s : Saved) (r : Refusal) → savedAs (length 
 unfolding savedAs written
 refused-kept b s r h = go (test (withinLimits s)) (test (leb (length (recordOf s)) (length b)))
   where
-    go : Tested (withinLimits s) → Tested (leb (length (recordOf s)) (length b)) → cond (withinLimits s && leb (length (recordOf s)) (length b)) (sets b 0 (recordOf s)) b ≡ b
+    go : Tested (withinLimits s) → Tested (leb (length (recordOf s)) (length b)) →
+        cond (withinLimits s && leb (length (recordOf s)) (length b)) (sets b 0 (recordOf s)) b ≡ b
     go (no w) _ = rw w
     go (yes w) (no l) = rw (w, l)
     go (yes w) (yes l) = let e = rw (w, l) at h in let z : _≡_ {A = ℕ} 0 1 = cc in absurd (omega arith)
@@ -165,7 +171,10 @@ abbrev pub x4 : Saved
 x4 = record { config = record { kind = X4; depth = 3; width = 0; turn = 4096 }; position = negsuc 1 }
 
 -- HEADLINE: x4, depth 3, 4096 counts per turn, position -2, byte for byte.
-pub x4-record : recordOf x4 ≡ 1 ∷ 0 ∷ 2 ∷ 0 ∷ 1 ∷ 2 ∷ 0 ∷ 1 ∷ 4 ∷ 3 ∷ 0 ∷ 8 ∷ 255 ∷ 255 ∷ 255 ∷ 255 ∷ 255 ∷ 255 ∷ 255 ∷ 254 ∷ 4 ∷ 0 ∷ 1 ∷ 3 ∷ 6 ∷ 0 ∷ 4 ∷ 0 ∷ 0 ∷ 16 ∷ 0 ∷ 127 ∷ 0 ∷ 0 ∷ []
+pub x4-record :
+    recordOf x4
+    ≡ 1 ∷ 0 ∷ 2 ∷ 0 ∷ 1 ∷ 2 ∷ 0 ∷ 1 ∷ 4 ∷ 3 ∷ 0 ∷ 8 ∷ 255 ∷ 255 ∷ 255 ∷ 255 ∷ 255 ∷ 255 ∷ 255 ∷ 254
+    ∷ 4 ∷ 0 ∷ 1 ∷ 3 ∷ 6 ∷ 0 ∷ 4 ∷ 0 ∷ 0 ∷ 16 ∷ 0 ∷ 127 ∷ 0 ∷ 0 ∷ []
 unfolding recordOf axisBytes frontBytes settingBytes fieldBytes bytesOf
 x4-record = refl
 

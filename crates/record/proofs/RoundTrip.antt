@@ -38,7 +38,7 @@ written-read s w =
     let next = 5 + length (axisBytes s) in
     let f = field-back l next endTag 0 0 [] (behind l (axisBytes s) end 5 refl) (lit< tt) (lit< tt) in
     let whole : eqb (length l) (next + 3 + 0) ≡ true = eq-eqb (length l) (next + 3 + 0) (simp length-append (omega arith)) in
-    rw (axis-back l s 5 end w refl, f .0, whole, toZ-ofZ {w = w64} (within-position s w), w)
+    rw (axis-back l s 5 w end refl, f .0, whole, toZ-ofZ {w = w64} (within-position s w), w)
 
 -- ---- what is read is written
 
@@ -63,7 +63,8 @@ pub passed : (s : List ℕ) (said : Saved) → readAs s ≡ Accepted said → Pa
 unfolding readAs endedAt
 passed s said h = let o = passed-if (starts opening s) (layoutRefusal s) h in go (axisAt s 5) refl (o .0) (o .1)
   where
-    go : (x : AxisRead) → axisAt s 5 ≡ x → starts opening s ≡ true → onAxis x (λ c bits at. endedAt s at c bits) ≡ Accepted said → Passed s said
+    go : (x : AxisRead) → axisAt s 5 ≡ x → starts opening s ≡ true →
+        onAxis x (λ c bits at. endedAt s at c bits) ≡ Accepted said → Passed s said
     go (Unsaid r) e o h = let z : _≡_ {A = ℕ} 0 1 = cc in absurd (omega arith)
     go (Said c bits next) e o h =
         let f = passed-if (standsAt s next endTag 0) Record (rw on-field at h) in

@@ -24,15 +24,17 @@ use Rattle.record.specs.Record.{withinLimits, recordOf, savedAs, written
 use Rattle.record.proofs.AxisLaws.{axis-long}
 
 -- The fields of an axis, put one after another.
-module _ (s : Saved) {bits : ℕ} {b m d : List ℕ} {at j r : ℕ} (e : bits ≡ ofZ w64 (s .position)) (p : Puts (frontBytes (s .config .kind) bits) b at m j) where
-  pub puts-counter : counterKind (s .config .kind) ≡ true → Puts (fieldBytes widthTag 1 (s .config .width)) m j d r → Puts (axisBytes s) b at d r
+module _ (s : Saved) {bits : ℕ} {b m d : List ℕ} {at j r : ℕ} (e : bits ≡ ofZ w64 (s .position)) where
+  pub puts-counter : counterKind (s .config .kind) ≡ true → Puts (frontBytes (s .config .kind) bits) b at m j →
+      Puts (fieldBytes widthTag 1 (s .config .width)) m j d r → Puts (axisBytes s) b at d r
   unfolding axisBytes settingBytes
-  puts-counter k q = rw (k, ← e) (puts-then p q)
+  puts-counter k p q = rw (k, ← e) (puts-then p q)
 
-  pub puts-sampled : {l : List ℕ} {i : ℕ} → counterKind (s .config .kind) ≡ false → Puts (fieldBytes depthTag 1 (s .config .depth)) m j l i →
-      Puts (fieldBytes turnTag 4 (s .config .turn)) l i d r → Puts (axisBytes s) b at d r
+  pub puts-sampled : {l : List ℕ} {i : ℕ} → counterKind (s .config .kind) ≡ false → Puts (frontBytes (s .config .kind) bits) b at m j →
+      Puts (fieldBytes depthTag 1 (s .config .depth)) m j l i → Puts (fieldBytes turnTag 4 (s .config .turn)) l i d r →
+      Puts (axisBytes s) b at d r
   unfolding axisBytes settingBytes
-  puts-sampled k q t = rw (k, ← e) (puts-then p (puts-then q t))
+  puts-sampled k p q t = rw (k, ← e) (puts-then p (puts-then q t))
 
 -- The opening, the fields and the end, put one after another.
 pub puts-record : (s : Saved) {b m l d : List ℕ} {i j r : ℕ} →
@@ -58,7 +60,8 @@ module _ (b : List ℕ) (s : Saved) where
     no-room h = let l = lt-leb (length (recordOf s)) (length b) (rw (record-long s) h) in (rw (w, l), rw (w, l))
 
     -- With room.
-    pub wrote : {n : ℕ} {last : List ℕ} → 8 + axisLength (s .config .kind) ≤ length b → Puts (recordOf s) b 0 last n → SavedInto b s (Bytes n) last
+    pub wrote : {n : ℕ} {last : List ℕ} → 8 + axisLength (s .config .kind) ≤ length b → Puts (recordOf s) b 0 last n →
+        SavedInto b s (Bytes n) last
     unfolding savedAs written
     wrote h p =
         let l = le-leb (length (recordOf s)) (length b) (rw (record-long s) h) in

@@ -10,7 +10,7 @@ use lib.ListN.{length, take, drop}
 use lib.Seq.{take-append-seam}
 use borrow.Author.Tests.{le-leb, leb-true}
 use Rattle.integers.proofs.Balance.{Tested, yes, no, test}
-use Rattle.position.specs.Position.{inRange, wordOf}
+use Rattle.position.specs.Position.{wordOf}
 use Rattle.position.proofs.PositionLaws.{word-low, word-high, position-in-range, position-word, word-position}
 use Rattle.refusal.specs.declared.Refusal.{Refusal}
 use Rattle.refusal.specs.declared.Refusal.the-variants.{Room as ROOM}
@@ -21,7 +21,7 @@ use Rattle.axis_sound.specs.Sound.{statusOf}
 use Rattle.axis.specs.declared.row.Axis.{Axis}
 use Rattle.axis.specs.declared.row.Row.{Row}
 use Rattle.axis_sound.specs.declared.Status.the-variants.{Sampled, Counter, Broken}
-use Rattle.axis.proofs.TestLaws.{both, either}
+use Rattle.axis.proofs.TestLaws.{either}
 use Rattle.axis_sound.proofs.PassLaws.{sampled-config}
 use Rattle.axis_sound.proofs.SoundLaws.{sampled-gives, counter-gives, counter-config, packed-again}
 use Rattle.tagged.specs.Bytes.{AllBytes}
@@ -31,6 +31,7 @@ use Rattle.record.specs.declared.answer.Saved.{Saved}
 use Rattle.record.specs.declared.answer.Read.{Read}
 use Rattle.record.specs.declared.answer.Read.the-variants.{Accepted, Refused as Unread}
 use Rattle.record.specs.declared.answer.Written.the-variants.{Bytes, Refused as Unwritten}
+use Rattle.record.proofs.LimitsLaws.{within-parts}
 use Rattle.record.proofs.RecordLaws.{read-back, one-encoding, accepted-within, saved-front}
 use Rattle.row_calls.specs.Change.{changed, presetAxis, Holds}
 use Rattle.row_calls.specs.Reasons.{Told}
@@ -41,12 +42,6 @@ use Rattle.row_calls.proofs.StatusLaws.{live, Live, live-position, made-live, e
 use Rattle.row_calls.proofs.ChangeLaws.{to-one, kept-not}
 use Rattle.row_calls.proofs.ReasonLaws.{Past, both-kinds}
 use Rattle.row_calls.proofs.SetupLaws.{config-holds}
-
--- What is within its limits is a configuration and a position.
-pub within-parts : (s : Saved) → withinLimits s ≡ true →
-    (goodConfig (s .config .kind) (s .config .depth) (s .config .width) (s .config .turn) ≡ true) × (inRange (s .position) ≡ true)
-unfolding withinLimits
-within-parts s e = both (goodConfig (s .config .kind) (s .config .depth) (s .config .width) (s .config .turn)) (inRange (s .position)) e
 
 -- The row of what a record says holds the axis that it says.
 said-holds : (said : Saved) → withinLimits said ≡ true →

@@ -146,5 +146,6 @@ unfolding fieldAt fieldBytes
 field-back s at tag n v rest e l h =
     let k = length-bytesOf n v in
     let b = rw k at (holds-back s at tag (bytesOf n v) rest e (rw k l)) in
-    let long : at + length (fieldBytes tag n v) ≡ at + 3 + n = simp length-append (omega (arith, k, length-bytesOf 2 (length (bytesOf n v)))) in
+    let j = length-bytesOf 2 (length (bytesOf n v)) in
+    let long : at + length (fieldBytes tag n v) ≡ at + 3 + n = simp length-append (omega arith) in
     (rw (b .0, b .1, number-back n v h), ap (λ (i : ℕ). drop i s) (sym long) ∙ behind s (fieldBytes tag n v) rest at e)

@@ -58,8 +58,8 @@ same-length c = search needs
 returns : tie.Need-returns
 returns c =
     let i = c .before .before .before .before .before .before in
-    puts-counter (start i .args .saved) (placed i) (i .before .before .before .put-front .ensures)
-    (sym (i .is-counter .ensures) ∙ c .before .before .before .before .before .if1 .taken) (c .before .before .put-field .ensures)
+    puts-counter (start i .args .saved) (placed i) (sym (i .is-counter .ensures) ∙ c .before .before .before .before .before .if1 .taken)
+    (i .before .before .before .put-front .ensures) (c .before .before .put-field .ensures)
 
 cast-put-field-2 : tie.Need-cast-put-field-2
 cast-put-field-2 c = search needs
@@ -75,7 +75,8 @@ unfolding fieldBytes bytesOf
 put-field-requires-3 c κs =
     let i = c .before .before .before .before .before .before .before .before in
     let p = c .before .before .before .before .put-field2 in
-    let n : axisLength (start i .args .saved .config .kind) ≡ 26 = rw (sym (i .is-counter .ensures) ∙ c .before .before .before .before .before .before .before .if1 .left) in
+    let e = sym (i .is-counter .ensures) ∙ c .before .before .before .before .before .before .before .if1 .left in
+    let n : axisLength (start i .args .saved .config .kind) ≡ 26 = rw e in
     omega (arith, fronted i, n, p .kept .0, p .ensures .behind)
 
 same-length-2 : tie.Need-same-length-2
@@ -83,9 +84,11 @@ same-length-2 c = search needs
 
 returns-2 : tie.Need-returns-2
 returns-2 c =
-    let i = c .before .before .before .before .before .before .before .before .before .before .before in
-    puts-sampled (start i .args .saved) (placed i) (i .before .before .before .put-front .ensures)
-    (sym (i .is-counter .ensures) ∙ c .before .before .before .before .before .before .before .before .before .before .if1 .left) (c .before .before .before .before .before .before .before .put-field2 .ensures) (c .before .before .put-field3 .ensures)
+    let o = c .before .before .before .before .before .before .before .before .before .before in
+    let i = o .before in
+    puts-sampled (start i .args .saved) (placed i) (sym (i .is-counter .ensures) ∙ o .if1 .left)
+    (i .before .before .before .put-front .ensures) (c .before .before .before .before .before .before .before .put-field2 .ensures)
+    (c .before .before .put-field3 .ensures)
 
 pub put-axis-spec : {M : Type 1} → statement M
 put-axis-spec =

@@ -49,19 +49,25 @@ put-axis-requires c κs = search needs
 
 put-field-requires : tie.Need-put-field-requires
 put-field-requires c κs =
-    let l = c .before .before .before .before .before .before .before .before .before .before .before in
+    let o = c .before .before .before .before .before .before .before .before .before .before in
+    let l = o .before in
     let p = c .before .before .before .before .before .before .before .put-bytes in
     let q = c .before .before .before .put-axis in
-    omega (arith, l .axis-length .ensures, c .before .before .before .before .before .before .before .before .before .before .if2 .left, p .kept .0, p .ensures .behind, q .kept .0, q .ensures .behind, axis-long (start l .args .saved))
+    let n = axis-long (start l .args .saved) in
+    omega (arith, l .axis-length .ensures, o .if2 .left, p .kept .0, p .ensures .behind, q .kept .0, q .ensures .behind)
 
 same-length : tie.Need-same-length
 same-length c = search needs
 
 returns-3 : tie.Need-returns-3
 returns-3 c =
-    let l = c .before .before .before .before .before .before .before .before .before .before .before .before .before .before in
-    wrote (start l .args .buf .now) (start l .args .saved) (good l) (omega (arith, l .axis-length .ensures, c .before .before .before .before .before .before .before .before .before .before .before .before .before .if2 .left))
-    (puts-record (start l .args .saved) (c .before .before .before .before .before .before .before .before .before .before .put-bytes .ensures) (c .before .before .before .before .before .before .put-axis .ensures) (c .before .before .put-field .ensures))
+    let o = c .before .before .before .before .before .before .before .before .before .before .before .before .before in
+    let l = o .before in
+    let s = start l .args .saved in
+    wrote (start l .args .buf .now) s (good l) (omega (arith, l .axis-length .ensures, o .if2 .left))
+    (puts-record s (c .before .before .before .before .before .before .before .before .before .before .put-bytes .ensures)
+    (c .before .before .before .before .before .before .put-axis .ensures)
+    (c .before .before .put-field .ensures))
 
 pub save-spec : {M : Type 1} → statement M
 save-spec =

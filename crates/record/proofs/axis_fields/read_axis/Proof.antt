@@ -28,13 +28,14 @@ module _ (c : tie.After-bits) where
   k = c .before .before .before .before .before .before
 
   -- the position that was read
-  placed : fieldAt (start k .args .slice .now) (k .kind .given .0 .1 .0) positionTag 8 ≡ Value (c .bits .given .0 .0) (c .bits .given .0 .1 .0)
+  placed : fieldAt (start k .args .slice .now) (k .kind .given .0 .1 .0) positionTag 8
+      ≡ Value (c .bits .given .0 .0) (c .bits .given .0 .1 .0)
   placed = sym (c .before .before .read-field2 .ensures) ∙ c .bits .given .1
 
   byte : Fits w8 (k .kind .given .0 .0)
-  byte = record {
-    fits = field-below (start k .args .slice .now) (start k .args .at) kindTag 1 (λ i. k .before .before .before .shared-slice-known .given i .fits) (kinds k);
-  }
+  byte =
+      let known = k .before .before .before .shared-slice-known in
+      record { fits = field-below (start k .args .slice .now) (start k .args .at) kindTag 1 (λ i. known .given i .fits) (kinds k) }
 
 read-field-requires : tie.Need-read-field-requires
 read-field-requires c κs = search needs
@@ -90,13 +91,15 @@ returns-4 : tie.Need-returns-4
 unfolding axisAt
 returns-4 c =
     let b = c .before .before .before .before in
-    rw (kinds (k b), known (b .before .before .before), placed b, sym (c .before .before .is-counter .ensures) ∙ c .before .if2 .taken) (c .read-counter .ensures)
+    let e = sym (c .before .before .is-counter .ensures) ∙ c .before .if2 .taken in
+    rw (kinds (k b), known (b .before .before .before), placed b, e) (c .read-counter .ensures)
 
 returns-5 : tie.Need-returns-5
 unfolding axisAt
 returns-5 c =
     let b = c .before .before .before .before in
-    rw (kinds (k b), known (b .before .before .before), placed b, sym (c .before .before .is-counter .ensures) ∙ c .before .if2 .left) (c .read-sampled .ensures)
+    let e = sym (c .before .before .is-counter .ensures) ∙ c .before .if2 .left in
+    rw (kinds (k b), known (b .before .before .before), placed b, e) (c .read-sampled .ensures)
 
 pub read-axis-spec : {M : Type 1} → statement M
 read-axis-spec =

@@ -46,4 +46,6 @@ returns-3 c =
     sym (starts-yes opening (at-loop .before .before .args .slice .now) (omega arith) (λ k h. at-loop .loop .inv .1 k (omega arith)))
 
 pub opens-spec : {M : Type 1} → statement M
-opens-spec = tie.close (tie.spec Inv-loop μ-loop returns loop-holds shared-slice-read-if2 array-read-if2 returns-2 add-i loop-less loop-again returns-3)
+opens-spec =
+    tie.close
+    (tie.spec Inv-loop μ-loop returns loop-holds shared-slice-read-if2 array-read-if2 returns-2 add-i loop-less loop-again returns-3)

@@ -36,7 +36,8 @@ module _ (c : tie.After-of-bits) where
   placed : toZ w64 (ofZ w64 (c .of-bits .result)) ≡ toZ w64 (st .args .bits)
   placed = rw (c .of-bits .ensures) (back (sfits-toZ {w = w64} (st .fits .bits)))
 
-limits : (c : tie.After-is-within) → withinLimits (saying (st (c .before) .args .config) (st (c .before) .args .bits)) ≡ c .is-within .result
+limits : (c : tie.After-is-within) →
+    withinLimits (saying (st (c .before) .args .config) (st (c .before) .args .bits)) ≡ c .is-within .result
 limits c = rw (← (placed (c .before))) (sym (c .is-within .ensures))
 
 read-field-requires : tie.Need-read-field-requires

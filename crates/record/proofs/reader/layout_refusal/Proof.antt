@@ -13,7 +13,8 @@ module _ (c : tie.After-layout) where
   bytes : AllBytes (c .before .before .before .before .args .slice .now)
   bytes k = c .before .before .before .shared-slice-known .given k .fits
 
-  found : fieldAt (c .before .before .before .before .args .slice .now) 0 layoutTag 2 ≡ Value (c .layout .given .0 .0) (c .layout .given .0 .1 .0)
+  found : fieldAt (c .before .before .before .before .args .slice .now) 0 layoutTag 2
+      ≡ Value (c .layout .given .0 .0) (c .layout .given .0 .1 .0)
   found = sym (c .before .before .read-field .ensures) ∙ c .layout .given .1
 
 read-field-requires : tie.Need-read-field-requires
@@ -30,7 +31,9 @@ unfolding layoutRefusal
 returns c = rw (sym (c .before .before .read-field .ensures) ∙ c .enum-told .given .1)
 
 cast-t4 : tie.Need-cast-t4
-cast-t4 c = record { fits = field-below (c .before .before .before .before .before .args .slice .now) 0 layoutTag 2 (bytes (c .before)) (found (c .before)) }
+cast-t4 c =
+    let l = c .before in
+    record { fits = field-below (l .before .before .before .before .args .slice .now) 0 layoutTag 2 (bytes l) (found l) }
 
 returns-2 : tie.Need-returns-2
 unfolding layoutRefusal

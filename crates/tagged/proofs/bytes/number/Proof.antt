@@ -24,7 +24,8 @@ module _ (c : tie.After-shared-slice-known Inv-loop μ-loop) where
   small : at-loop .loop .v < 256 ^ 7
   small =
       rw (at-loop .loop .inv .1)
-      (lt-of-lt-of-le (number-below (at-loop .before .args .slice .now) (at-loop .before .args .at) (at-loop .loop .i) bytes) (pow-le-pow-right {n = 256} (omega arith) {j = 7} (omega arith)))
+      (lt-of-lt-of-le (number-below (at-loop .before .args .slice .now) (at-loop .before .args .at) (at-loop .loop .i) bytes)
+      (pow-le-pow-right {n = 256} (omega arith) {j = 7} (omega arith)))
 
 loop-holds : tie.Need-loop-holds Inv-loop μ-loop
 unfolding numberFrom
@@ -54,7 +55,8 @@ loop-less c = omega arith
 loop-again : tie.Need-loop-again Inv-loop μ-loop
 loop-again c =
     let l = at-loop c in
-    (omega arith, omega (arith, l .loop .inv .1, number-next (l .before .args .slice .now) (l .before .args .at) (l .loop .i) (omega arith)))
+    let a = l .before .args in
+    (omega arith, omega (arith, l .loop .inv .1, number-next (a .slice .now) (a .at) (l .loop .i) (omega arith)))
 
 returns : tie.Need-returns Inv-loop μ-loop
 returns c =

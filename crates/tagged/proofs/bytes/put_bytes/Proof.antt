@@ -35,7 +35,8 @@ loop-again : tie.Need-loop-again Inv-loop μ-loop
 loop-again c =
     let l = c .before .before .loop in
     let a = c .before .before .before .args in
-    (omega arith, length-set (l .out) _ _ ∙ l .inv .1, rw (l .inv .2) (sets-next (a .out .now) (a .at) (a .bytes .now) (l .i) (omega arith)))
+    let more = sets-next (a .out .now) (a .at) (a .bytes .now) (l .i) (omega arith) in
+    (omega arith, length-set (l .out) _ _ ∙ l .inv .1, rw (l .inv .2) more)
 
 add-result : tie.Need-add-result Inv-loop μ-loop
 add-result c = omega arith

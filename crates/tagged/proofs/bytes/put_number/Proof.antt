@@ -10,7 +10,8 @@ use Rattle.tagged.proofs.bytes.put_number.Tie as tie
 
 -- what is left to write, written over the present buffer, gives the whole
 abbrev Inv-loop : tie.InvT-loop
-Inv-loop buf₀ at n v rest₀ j₀ buf rest j = (j ≤ n) × (length buf ≡ length buf₀) × (sets buf at (bytesOf j rest) ≡ sets buf₀ at (bytesOf n v))
+Inv-loop buf₀ at n v rest₀ j₀ buf rest j =
+    (j ≤ n) × (length buf ≡ length buf₀) × (sets buf at (bytesOf j rest) ≡ sets buf₀ at (bytesOf n v))
 
 abbrev μ-loop : tie.MeasureT-loop
 μ-loop buf₀ at n v rest₀ j₀ buf rest j = j
@@ -54,4 +55,6 @@ returns c =
     ap (λ (k : ℕ). sets (l .buf) (c .before .before .args .at) (bytesOf k (l .rest))) e ∙ l .inv .2
 
 pub put-number-spec : {M : Type 1} → statement M
-put-number-spec = tie.close (tie.spec Inv-loop μ-loop loop-holds sub-j cast-buf add-buf slice-write-buf loop-less loop-again same-length returns)
+put-number-spec =
+    tie.close
+    (tie.spec Inv-loop μ-loop loop-holds sub-j cast-buf add-buf slice-write-buf loop-less loop-again same-length returns)

@@ -22,7 +22,8 @@ same-length : tie.Need-same-length
 same-length c = search needs
 
 returns : tie.Need-returns
-returns c = puts-field _ _ _ _ _ (c .before .before .before .before .before .before .put-head .ensures) (c .before .before .put-number .ensures)
+returns c =
+    puts-field _ _ _ _ _ (c .before .before .before .before .before .before .put-head .ensures) (c .before .before .put-number .ensures)
 
 pub put-field-spec : {M : Type 1} → statement M
 put-field-spec =

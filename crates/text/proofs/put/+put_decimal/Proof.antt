@@ -42,7 +42,9 @@ put-decimal-put-byte-requires : (t : ℕ) → put-decimal-lts.Need-put-byte-requ
   put-decimal-below t,
   put-decimal.Post,
 ) (put-decimal-at t) put-decimal.Post
-put-decimal-put-byte-requires t c κs = let a = c .before .before .before .before .args in digit-fits (a .n) (a .at) _ (c .before .before .before .before .pre .1)
+put-decimal-put-byte-requires t c κs =
+    let s = c .before .before .before .before in
+    digit-fits (s .args .n) (s .args .at) _ (s .pre .1)
 
 put-decimal-same-length : (t : ℕ) → put-decimal-lts.Need-same-length (
   digit-reads.Asked,
@@ -62,7 +64,9 @@ put-decimal-returns : (t : ℕ) → put-decimal-lts.Need-returns (
   put-decimal-below t,
   put-decimal.Post,
 ) (put-decimal-at t) put-decimal.Post
-put-decimal-returns t c = puts-one _ _ (c .before .before .before .before .before .if1 .taken) (c .before .before .before .digit .ensures) (c .before .before .put-byte .ensures)
+put-decimal-returns t c =
+    puts-one _ _ (c .before .before .before .before .before .if1 .taken) (c .before .before .before .digit .ensures)
+    (c .before .before .put-byte .ensures)
 
 put-decimal-put-decimal-requires : (t : ℕ) → put-decimal-lts.Need-put-decimal-requires (
   digit-reads.Asked,
@@ -75,7 +79,8 @@ put-decimal-put-decimal-requires : (t : ℕ) → put-decimal-lts.Need-put-decima
 put-decimal-put-decimal-requires t c κs =
     let a = c .before .before .before .args in
     let p = c .before .before .before .pre in
-    (omega (arith, p .0, c .before .if1 .left), omega (arith, tenth-fits (a .n) (a .at) (length (a .out .now)) (c .before .if1 .left) (p .1)))
+    let l = c .before .if1 .left in
+    (omega (arith, p .0, l), omega (arith, tenth-fits (a .n) (a .at) (length (a .out .now)) l (p .1)))
 
 put-decimal-digit-requires-2 : (t : ℕ) → put-decimal-lts.Need-digit-requires-2 (
   digit-reads.Asked,
@@ -114,7 +119,8 @@ put-decimal-same-length-2 : (t : ℕ) → put-decimal-lts.Need-same-length-2 (
   put-decimal-below t,
   put-decimal.Post,
 ) (put-decimal-at t) put-decimal.Post
-put-decimal-same-length-2 t c = c .before .before .put-byte2 .kept .0 ∙ c .before .before .before .before .before .before .before .put-decimal .kept .0
+put-decimal-same-length-2 t c =
+    c .before .before .put-byte2 .kept .0 ∙ c .before .before .before .before .before .before .before .put-decimal .kept .0
 
 put-decimal-returns-2 : (t : ℕ) → put-decimal-lts.Need-returns-2 (
   digit-reads.Asked,

@@ -9,10 +9,14 @@ put-bytes-requires : tie.Need-put-bytes-requires
 put-bytes-requires c κs = let a = c .before .before .before .args in omega (arith, line-length (a .label .now) (decimal (a .n)))
 
 put-decimal-requires : tie.Need-put-decimal-requires
-put-decimal-requires c κs = let a = c .before .before .before .before .before .before .before .args in omega (arith, line-length (a .label .now) (decimal (a .n)))
+put-decimal-requires c κs =
+    let a = c .before .before .before .before .before .before .before .args in
+    omega (arith, line-length (a .label .now) (decimal (a .n)))
 
 put-byte-requires : tie.Need-put-byte-requires
-put-byte-requires c κs = let a = c .before .before .before .before .before .before .before .before .before .before .before .args in omega (arith, line-length (a .label .now) (decimal (a .n)))
+put-byte-requires c κs =
+    let a = c .before .before .before .before .before .before .before .before .before .before .before .args in
+    omega (arith, line-length (a .label .now) (decimal (a .n)))
 
 same-length : tie.Need-same-length
 same-length c = search needs

@@ -7,7 +7,8 @@ use mir.Syntax.{w64}
 use mir.Val.{toZ, ofZ}
 use Rattle.integers.proofs.Balance.{ltZ-false}
 use Rattle.integers.proofs.Machine.{back, to-u64}
-use Rattle.text.proofs.TextLaws.{short-above, short-fits, size-is, size-fits}
+use Rattle.tagged.proofs.TwosLaws.{short-above, short-fits}
+use Rattle.text.proofs.TextLaws.{size-is, size-fits}
 use borrow.Author.Needs.{needs}
 use Rattle.text.proofs.put.size.Statement.{statement}
 use Rattle.text.proofs.put.size.Tie as tie

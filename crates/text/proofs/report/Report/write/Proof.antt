@@ -37,7 +37,8 @@ put-line-requires c κs = omega (arith, first (c .before .before), room c)
 put-position-requires : tie.Need-put-position-requires
 put-position-requires c κs =
     let s = c .before .before .before .before .before in
-    rw (back (held s)) (omega (arith, first s, second s, room (c .before .before .before), c .before .before .put-line .kept .0, c .before .before .put-line .ensures .behind))
+    let p = c .before .before .put-line in
+    rw (back (held s)) (omega (arith, first s, second s, room (c .before .before .before), p .kept .0, p .ensures .behind))
 
 slice-aggregate-put-line-2 : tie.Need-slice-aggregate-put-line-2
 slice-aggregate-put-line-2 c = search needs
@@ -51,7 +52,8 @@ put-line-requires-2 c κs =
     let p = c .before .before .before .before .before .before .put-line in
     let q = c .before .before .before .put-position in
     let e = rw (back (held s)) at (q .ensures .behind) in
-    omega (arith, first s, second s, third s, room (c .before .before .before .before .before .before .before), p .kept .0, p .ensures .behind, q .kept .0, e)
+    let r = room (c .before .before .before .before .before .before .before) in
+    omega (arith, first s, second s, third s, r, p .kept .0, p .ensures .behind, q .kept .0, e)
 
 returns : tie.Need-returns
 returns c =
