@@ -2,7 +2,7 @@
 use mathlib.Core.Path.{_≡_, ap}
 use Rattle.reckon.specs.declared.Reckoned.{Reckoned}
 use Rattle.reckon.proofs.ReckonedLaws.{reckoned-apart}
-use Rattle.record.specs.declared.answer.Verdict.{Verdict}
+use Rattle.record.specs.declared.answer.Checked.{Checked}
 use Rattle.record.proofs.AnswerLaws.{test-told}
 use Rattle.host.specs.Answer.{answerTo, answerTest}
 use Rattle.host.specs.declared.answer.Answer.{Answer}
@@ -14,6 +14,6 @@ answer-apart a b e =
     reckoned-apart a b (ap (λ (x : Answer). x .refusal) e) (ap (λ (x : Answer). x .found) e) (ap (λ (x : Answer). x .value) e)
 
 -- HEADLINE: so did two record tests.
-pub test-apart : (a b : Verdict) → answerTest a ≡ answerTest b → a ≡ b
+pub test-apart : (a b : Checked) → answerTest a ≡ answerTest b → a ≡ b
 unfolding answerTest
 test-apart a b e = test-told a b (ap (λ (x : Answer). x .refusal) e) (ap (λ (x : Answer). x .found) e)

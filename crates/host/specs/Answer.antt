@@ -3,7 +3,7 @@ use lib.IntN.{pos}
 use Rattle.reckon.specs.Reckoned.{refusalIn, foundBy, valueIn}
 use Rattle.reckon.specs.declared.Reckoned.{Reckoned}
 use Rattle.record.specs.Answer.{testedNumber, testedFound}
-use Rattle.record.specs.declared.answer.Verdict.{Verdict}
+use Rattle.record.specs.declared.answer.Checked.{Checked}
 use Rattle.host.specs.declared.answer.Answer.{Answer}
 
 -- The paper's number, found number and value of a calculation's answer.
@@ -11,5 +11,5 @@ unfoldable pub answerTo : Reckoned → Answer
 answerTo a = record { refusal = refusalIn a; found = foundBy a; value = valueIn a }
 
 -- The paper's number and found number of a record test's answer, which has no value.
-unfoldable pub answerTest : Verdict → Answer
+unfoldable pub answerTest : Checked → Answer
 answerTest a = record { refusal = testedNumber a; found = testedFound a; value = pos 0 }

@@ -3,7 +3,7 @@ ghost use mathlib.Core.Path.{_≡_};
 ghost use Rattle.record.specs.Record.{testedAs};
 ghost use Rattle.host.specs.Answer.{answerTest};
 use crate::answer::Answer;
-use record::answer::Verdict;
+use record::answer::Checked;
 
 // Whether a slice is a saved record, or why it is none.
 #[no_mangle]
@@ -11,12 +11,12 @@ pub extern "C" fn ubrenchip_test_record(slice: &[u8]) -> Answer
     ensures { λ r. ⌜ r ≡ answerTest (testedAs (now (slice .entry))) ⌝ }
 {
     match record::reader::test(slice) {
-        Verdict::Accepted => Answer {
+        Checked::Accepted => Answer {
             refusal: 0,
             found: 0,
             value: 0,
         },
-        Verdict::Refused(e) => Answer {
+        Checked::Refused(e) => Answer {
             refusal: refusal::number(e),
             found: refusal::found(e),
             value: 0,

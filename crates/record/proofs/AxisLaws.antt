@@ -29,7 +29,7 @@ use Rattle.record.specs.AxisFields.{knownKind, counterAs, sampledAs, cou
 use Rattle.record.specs.AxisFields.{frontBytes, settingBytes, axisBytes, axisLength}
 use Rattle.record.specs.Record.{withinLimits, saying}
 use Rattle.record.proofs.OrderLaws.{on-field}
-use Rattle.record.proofs.LimitsLaws.{sampled-kind, known-counter, Good, sampled, counter, within-config, within-position}
+use Rattle.record.proofs.LimitsLaws.{sampled-kind, known-counter, SoundConfig, sampled, counter, within-config, within-position}
 
 -- HEADLINE: an axis's fields are 19 bytes for a counter, else 26.
 pub axis-long : (s : Saved) → length (axisBytes s) ≡ axisLength (s .config .kind)
@@ -72,7 +72,7 @@ module _ (s : List ℕ) (x : Saved) (at : ℕ) (w : withinLimits x ≡ true) (re
       let q = field-back s (at + 3 + 1) positionTag 8 bits _ (k .1) (lit< tt) (fits-ofZ {w = w64} (within-position x w) .fits) in
       (k .0, q .0, q .1)
 
-  by : Good c → axisAt s at ≡ Said c bits next
+  by : SoundConfig c → axisAt s at ≡ Said c bits next
   unfolding axisAt counterAt sampledAt settingBytes
   by (counter ck hw d t) =
       let f = front (omega (arith, eqb-true (c .kind) COUNTER ck)) in

@@ -20,8 +20,8 @@ use Rattle.axis.specs.Config.{goodConfig}
 use Rattle.record.specs.declared.answer.Saved.{Saved}
 use Rattle.record.specs.declared.answer.Read.{Read}
 use Rattle.record.specs.declared.answer.Read.the-variants.{Accepted, Refused}
-use Rattle.record.specs.declared.answer.Verdict.{Verdict}
-use Rattle.record.specs.declared.answer.Verdict.the-variants.{Accepted as Passes, Refused as Fails}
+use Rattle.record.specs.declared.answer.Checked.{Checked}
+use Rattle.record.specs.declared.answer.Checked.the-variants.{Accepted as Passes, Refused as Fails}
 use Rattle.record.specs.declared.answer.Written.{Written}
 use Rattle.record.specs.declared.answer.Written.the-variants.{Refused as Unwritten}
 use Rattle.tagged.specs.Bytes.{AllBytes, numberIn, numberFrom, bytesOf, starts}
@@ -158,7 +158,7 @@ pub read-one : (s : List ℕ) (q r : Read) → q ≡ readAs s → r ≡ readAs s
 read-one s q r = one
 
 -- HEADLINE: testing a slice has one outcome.
-pub test-one : (s : List ℕ) (q r : Verdict) → q ≡ testedAs s → r ≡ testedAs s → q ≡ r
+pub test-one : (s : List ℕ) (q r : Checked) → q ≡ testedAs s → r ≡ testedAs s → q ≡ r
 test-one s q r = one
 
 -- HEADLINE: saving into a buffer has one outcome, answer and buffer.

@@ -15,7 +15,7 @@ pub enum Read {
 }
 
 // What a test says of a record.
-pub enum Verdict {
+pub enum Checked {
     Accepted,
     Refused(Refusal),
 }
