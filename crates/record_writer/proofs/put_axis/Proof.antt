@@ -1,3 +1,4 @@
+-- `put_axis` meets its contract: the kind and the position, then a counter's field or a sampled axis's two, each behind the one before.
 use mathlib.Core.Path.{_≡_, sym, ap, _∙_}
 use Prim.Native.Nat.{_+_, _≤_}
 use native.Mathlib.Omega.{arith}
@@ -13,9 +14,6 @@ use Rattle.record.proofs.WriterLaws.{puts-counter, puts-sampled}
 use borrow.Author.Needs.{needs}
 use Rattle.record_writer.proofs.put_axis.Statement.{statement}
 use Rattle.record_writer.proofs.put_axis.Tie as tie
-
-cast-kind : tie.Need-cast-kind
-cast-kind c = search needs
 
 module _ (c : tie.After-is-counter) where
   abbrev start : tie.Start
@@ -37,23 +35,11 @@ module _ (c : tie.After-is-counter) where
       let p = c .before .before .before .put-front in
       (p .ensures .behind, p .kept .0, start .pre, length-bounds (start .args .saved .config .kind) .0)
 
-bits-of-requires : tie.Need-bits-of-requires
-bits-of-requires c κs = search needs
-
 put-front-requires : tie.Need-put-front-requires
 put-front-requires c κs = omega (arith, length-bounds (c .before .before .before .before .before .before .args .saved .config .kind))
 
-is-counter-requires : tie.Need-is-counter-requires
-is-counter-requires c κs = search needs
-
-cast-put-field : tie.Need-cast-put-field
-cast-put-field c = search needs
-
 put-field-requires : tie.Need-put-field-requires
 put-field-requires c κs = let i = c .before .before .before in omega (arith, fronted i)
-
-same-length : tie.Need-same-length
-same-length c = search needs
 
 returns : tie.Need-returns
 returns c =
@@ -61,14 +47,8 @@ returns c =
     puts-counter (start i .args .saved) (placed i) (sym (i .is-counter .ensures) ∙ c .before .before .before .before .before .if1 .taken)
     (i .before .before .before .put-front .ensures) (c .before .before .put-field .ensures)
 
-cast-put-field-2 : tie.Need-cast-put-field-2
-cast-put-field-2 c = search needs
-
 put-field-requires-2 : tie.Need-put-field-requires-2
 put-field-requires-2 c κs = let i = c .before .before .before in omega (arith, fronted i)
-
-cast-put-field-3 : tie.Need-cast-put-field-3
-cast-put-field-3 c = search needs
 
 put-field-requires-3 : tie.Need-put-field-requires-3
 unfolding fieldBytes bytesOf
@@ -78,9 +58,6 @@ put-field-requires-3 c κs =
     let e = sym (i .is-counter .ensures) ∙ c .before .before .before .before .before .before .before .if1 .left in
     let n : axisLength (start i .args .saved .config .kind) ≡ 26 = rw e in
     omega (arith, fronted i, n, p .kept .0, p .ensures .behind)
-
-same-length-2 : tie.Need-same-length-2
-same-length-2 c = search needs
 
 returns-2 : tie.Need-returns-2
 returns-2 c =
@@ -94,17 +71,6 @@ pub put-axis-spec : {M : Type 1} → statement M
 put-axis-spec =
     tie.close
     (tie.spec
-    cast-kind
-    bits-of-requires
-    put-front-requires
-    is-counter-requires
-    cast-put-field
-    put-field-requires
-    same-length
-    returns
-    cast-put-field-2
-    put-field-requires-2
-    cast-put-field-3
-    put-field-requires-3
-    same-length-2
+    (λ c. search needs) (λ c κs. search needs) put-front-requires (λ c κs. search needs) (λ c. search needs) put-field-requires
+    (λ c. search needs) returns (λ c. search needs) put-field-requires-2 (λ c. search needs) put-field-requires-3 (λ c. search needs)
     returns-2)

@@ -7,19 +7,16 @@ use borrow.Author.Needs.{needs}
 use Rattle.record_writer.proofs.put_front.Statement.{statement}
 use Rattle.record_writer.proofs.put_front.Tie as tie
 
-put-field-requires : tie.Need-put-field-requires
-put-field-requires c κs = search needs
-
 put-field-requires-2 : tie.Need-put-field-requires-2
 unfolding fieldBytes bytesOf
 put-field-requires-2 c κs = let p = c .before .before .before .put-field in omega (arith, p .kept .0, p .ensures .behind)
-
-same-length : tie.Need-same-length
-same-length c = search needs
 
 returns : tie.Need-returns
 unfolding frontBytes
 returns c = puts-then (c .before .before .before .before .before .before .put-field .ensures) (c .before .before .put-field2 .ensures)
 
 pub put-front-spec : {M : Type 1} → statement M
-put-front-spec = tie.close (tie.spec put-field-requires put-field-requires-2 same-length returns)
+put-front-spec =
+    tie.close
+    (tie.spec
+    (λ c κs. search needs) put-field-requires-2 (λ c. search needs) returns)

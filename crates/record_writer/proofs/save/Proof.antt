@@ -16,19 +16,10 @@ module _ (c : tie.After-axis-length) where
   good : withinLimits (start .args .saved) ≡ true
   good = sym (c .before .before .before .before .is-within .ensures) ∙ not-false _ (c .before .before .before .if1 .left)
 
-is-within-requires : tie.Need-is-within-requires
-is-within-requires c κs = search needs
-
 returns : tie.Need-returns
 returns c =
     let a = c .before .before .before .args in
     outside (a .buf .now) (a .saved) (sym (c .before .is-within .ensures) ∙ not-true _ (c .if1 .taken))
-
-cast-axis-length : tie.Need-cast-axis-length
-cast-axis-length c = search needs
-
-axis-length-requires : tie.Need-axis-length-requires
-axis-length-requires c κs = search needs
 
 add-if2 : tie.Need-add-if2
 add-if2 c = record { fits = omega (arith, c .axis-length .ensures, length-bounds (start c .args .saved .config .kind)) }
@@ -38,15 +29,6 @@ returns-2 c =
     let l = c .before in
     no-room (start l .args .buf .now) (start l .args .saved) (good l) (omega (arith, l .axis-length .ensures, c .if2 .taken))
 
-slice-aggregate-put-bytes : tie.Need-slice-aggregate-put-bytes
-slice-aggregate-put-bytes c = search needs
-
-put-bytes-requires : tie.Need-put-bytes-requires
-put-bytes-requires c κs = search needs
-
-put-axis-requires : tie.Need-put-axis-requires
-put-axis-requires c κs = search needs
-
 put-field-requires : tie.Need-put-field-requires
 put-field-requires c κs =
     let o = c .before .before .before .before .before .before .before .before .before .before in
@@ -55,9 +37,6 @@ put-field-requires c κs =
     let q = c .before .before .before .put-axis in
     let n = axis-long (start l .args .saved) in
     omega (arith, l .axis-length .ensures, o .if2 .left, p .kept .0, p .ensures .behind, q .kept .0, q .ensures .behind)
-
-same-length : tie.Need-same-length
-same-length c = search needs
 
 returns-3 : tie.Need-returns-3
 returns-3 c =
@@ -73,15 +52,5 @@ pub save-spec : {M : Type 1} → statement M
 save-spec =
     tie.close
     (tie.spec
-    is-within-requires
-    returns
-    cast-axis-length
-    axis-length-requires
-    add-if2
-    returns-2
-    slice-aggregate-put-bytes
-    put-bytes-requires
-    put-axis-requires
-    put-field-requires
-    same-length
-    returns-3)
+    (λ c κs. search needs) returns (λ c. search needs) (λ c κs. search needs) add-if2 returns-2 (λ c. search needs)
+    (λ c κs. search needs) (λ c κs. search needs) put-field-requires (λ c. search needs) returns-3)

@@ -1,3 +1,4 @@
+-- `read_axis` meets its contract: each exit is the answer of the first field or check that fails, by the fields that were read before it.
 use borrow.Author.Needs.{needs}
 use mathlib.Core.Path.{_≡_, sym, _∙_}
 use mathlib.Core.Bool.{true}
@@ -37,34 +38,13 @@ module _ (c : tie.After-bits) where
       let known = k .before .before .before .shared-slice-known in
       record { fits = field-below (start k .args .slice .now) (start k .args .at) kindTag 1 (λ i. known .given i .fits) (kinds k) }
 
-read-field-requires : tie.Need-read-field-requires
-read-field-requires c κs = search needs
-
-enum-known-kind : tie.Need-enum-known-kind
-enum-known-kind c = search needs
-
-enum-told : tie.Need-enum-told
-enum-told c = search needs
-
 returns : tie.Need-returns
 unfolding axisAt
 returns c = rw (sym (c .before .before .read-field .ensures) ∙ c .enum-told .given .1)
 
-is-known-requires : tie.Need-is-known-requires
-is-known-requires c κs = search needs
-
 returns-2 : tie.Need-returns-2
 unfolding axisAt
 returns-2 c = rw (kinds (c .before .before .before), sym (c .before .is-known .ensures) ∙ not-true _ (c .if1 .taken))
-
-read-field-requires-2 : tie.Need-read-field-requires-2
-read-field-requires-2 c κs = search needs
-
-enum-known-bits : tie.Need-enum-known-bits
-enum-known-bits c = search needs
-
-enum-told-2 : tie.Need-enum-told-2
-enum-told-2 c = search needs
 
 returns-3 : tie.Need-returns-3
 unfolding axisAt
@@ -72,20 +52,11 @@ returns-3 c =
     let a = c .before .before .before .before .before .before in
     rw (kinds a, known (c .before .before .before), sym (c .before .before .read-field2 .ensures) ∙ c .enum-told2 .given .1)
 
-is-counter-requires : tie.Need-is-counter-requires
-is-counter-requires c κs = search needs
-
 cast-read-counter : tie.Need-cast-read-counter
 cast-read-counter c = byte (c .before .before .before)
 
-read-counter-requires : tie.Need-read-counter-requires
-read-counter-requires c κs = search needs
-
 cast-read-sampled : tie.Need-cast-read-sampled
 cast-read-sampled c = byte (c .before .before .before)
-
-read-sampled-requires : tie.Need-read-sampled-requires
-read-sampled-requires c κs = search needs
 
 returns-4 : tie.Need-returns-4
 unfolding axisAt
@@ -105,20 +76,6 @@ pub read-axis-spec : {M : Type 1} → statement M
 read-axis-spec =
     tie.close
     (tie.spec
-    read-field-requires
-    enum-known-kind
-    enum-told
-    returns
-    is-known-requires
-    returns-2
-    read-field-requires-2
-    enum-known-bits
-    enum-told-2
-    returns-3
-    is-counter-requires
-    cast-read-counter
-    read-counter-requires
-    cast-read-sampled
-    read-sampled-requires
-    returns-4
-    returns-5)
+    (λ c κs. search needs) (λ c. search needs) (λ c. search needs) returns (λ c κs. search needs) returns-2 (λ c κs. search needs)
+    (λ c. search needs) (λ c. search needs) returns-3 (λ c κs. search needs) cast-read-counter (λ c κs. search needs) cast-read-sampled
+    (λ c κs. search needs) returns-4 returns-5)

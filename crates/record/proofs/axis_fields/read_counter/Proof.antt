@@ -20,15 +20,6 @@ module _ (c : tie.After-width) where
   found : fieldAt (start .args .slice .now) (start .args .at) widthTag 1 ≡ Value (c .width .given .0 .0) (c .width .given .0 .1 .0)
   found = sym (c .before .before .read-field .ensures) ∙ c .width .given .1
 
-read-field-requires : tie.Need-read-field-requires
-read-field-requires c κs = search needs
-
-enum-known-width : tie.Need-enum-known-width
-enum-known-width c = search needs
-
-enum-told : tie.Need-enum-told
-enum-told c = search needs
-
 returns : tie.Need-returns
 unfolding counterAt
 returns c = rw (sym (c .before .before .read-field .ensures) ∙ c .enum-told .given .1)
@@ -46,9 +37,4 @@ pub read-counter-spec : {M : Type 1} → statement M
 read-counter-spec =
     tie.close
     (tie.spec
-    read-field-requires
-    enum-known-width
-    enum-told
-    returns
-    cast-width
-    returns-2)
+    (λ c κs. search needs) (λ c. search needs) (λ c. search needs) returns cast-width returns-2)

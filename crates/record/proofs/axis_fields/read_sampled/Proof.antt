@@ -28,27 +28,9 @@ module _ (c : tie.After-turn) where
   turns : fieldAt (start d .args .slice .now) (d .depth .given .0 .1 .0) turnTag 4 ≡ Value (c .turn .given .0 .0) (c .turn .given .0 .1 .0)
   turns = sym (c .before .before .read-field2 .ensures) ∙ c .turn .given .1
 
-read-field-requires : tie.Need-read-field-requires
-read-field-requires c κs = search needs
-
-enum-known-depth : tie.Need-enum-known-depth
-enum-known-depth c = search needs
-
-enum-told : tie.Need-enum-told
-enum-told c = search needs
-
 returns : tie.Need-returns
 unfolding sampledAt
 returns c = rw (sym (c .before .before .read-field .ensures) ∙ c .enum-told .given .1)
-
-read-field-requires-2 : tie.Need-read-field-requires-2
-read-field-requires-2 c κs = search needs
-
-enum-known-turn : tie.Need-enum-known-turn
-enum-known-turn c = search needs
-
-enum-told-2 : tie.Need-enum-told-2
-enum-told-2 c = search needs
 
 returns-2 : tie.Need-returns-2
 unfolding sampledAt
@@ -74,14 +56,5 @@ pub read-sampled-spec : {M : Type 1} → statement M
 read-sampled-spec =
     tie.close
     (tie.spec
-    read-field-requires
-    enum-known-depth
-    enum-told
-    returns
-    read-field-requires-2
-    enum-known-turn
-    enum-told-2
-    returns-2
-    cast-depth
-    cast-turn
-    returns-3)
+    (λ c κs. search needs) (λ c. search needs) (λ c. search needs) returns (λ c κs. search needs) (λ c. search needs)
+    (λ c. search needs) returns-2 cast-depth cast-turn returns-3)

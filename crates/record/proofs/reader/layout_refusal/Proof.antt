@@ -17,15 +17,6 @@ module _ (c : tie.After-layout) where
       ≡ Value (c .layout .given .0 .0) (c .layout .given .0 .1 .0)
   found = sym (c .before .before .read-field .ensures) ∙ c .layout .given .1
 
-read-field-requires : tie.Need-read-field-requires
-read-field-requires c κs = search needs
-
-enum-known-layout : tie.Need-enum-known-layout
-enum-known-layout c = search needs
-
-enum-told : tie.Need-enum-told
-enum-told c = search needs
-
 returns : tie.Need-returns
 unfolding layoutRefusal
 returns c = rw (sym (c .before .before .read-field .ensures) ∙ c .enum-told .given .1)
@@ -41,4 +32,6 @@ returns-2 c = rw (found (c .before))
 
 pub layout-refusal-spec : {M : Type 1} → statement M
 layout-refusal-spec =
-    tie.close (tie.spec read-field-requires enum-known-layout enum-told returns cast-t4 returns-2)
+    tie.close
+    (tie.spec
+    (λ c κs. search needs) (λ c. search needs) (λ c. search needs) returns cast-t4 returns-2)

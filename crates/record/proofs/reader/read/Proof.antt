@@ -12,27 +12,9 @@ use Rattle.record.proofs.reader.read.Tie as tie
 opened : (c : tie.Else1) → starts opening (c .before .before .before .args .slice .now) ≡ true
 opened c = sym (c .before .opens .ensures) ∙ not-false _ (c .if1 .left)
 
-opens-requires : tie.Need-opens-requires
-opens-requires c κs = search needs
-
-layout-refusal-requires : tie.Need-layout-refusal-requires
-layout-refusal-requires c κs = search needs
-
 returns : tie.Need-returns
 unfolding readAs
 returns c = rw (sym (c .before .before .opens .ensures) ∙ not-true _ (c .before .if1 .taken)) (ap Refused (c .layout-refusal .ensures))
-
-read-axis-requires : tie.Need-read-axis-requires
-read-axis-requires c κs = search needs
-
-enum-known-config : tie.Need-enum-known-config
-enum-known-config c = search needs
-
-ended-requires : tie.Need-ended-requires
-ended-requires c κs = search needs
-
-enum-known-r : tie.Need-enum-known-r
-enum-known-r c = search needs
 
 returns-2 : tie.Need-returns-2
 unfolding readAs
@@ -50,12 +32,5 @@ pub read-spec : {M : Type 1} → statement M
 read-spec =
     tie.close
     (tie.spec
-    opens-requires
-    layout-refusal-requires
-    returns
-    read-axis-requires
-    enum-known-config
-    ended-requires
-    enum-known-r
-    returns-2
-    returns-3)
+    (λ c κs. search needs) (λ c κs. search needs) returns (λ c κs. search needs) (λ c. search needs) (λ c κs. search needs)
+    (λ c. search needs) returns-2 returns-3)

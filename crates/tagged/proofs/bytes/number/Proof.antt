@@ -31,12 +31,6 @@ loop-holds : tie.Need-loop-holds Inv-loop μ-loop
 unfolding numberFrom
 loop-holds c = (omega arith, refl)
 
-add-byte : tie.Need-add-byte Inv-loop μ-loop
-add-byte c = omega arith
-
-shared-slice-read-byte : tie.Need-shared-slice-read-byte Inv-loop μ-loop
-shared-slice-read-byte c = omega arith
-
 cast-byte : tie.Need-cast-byte Inv-loop μ-loop
 cast-byte c = omega (arith, bytes c (at-loop c .before .args .at + at-loop c .loop .i))
 
@@ -45,12 +39,6 @@ mul-v c = omega (arith, small c)
 
 add-v : tie.Need-add-v Inv-loop μ-loop
 add-v c = omega (arith, small c, bytes c (at-loop c .before .args .at + at-loop c .loop .i))
-
-add-i : tie.Need-add-i Inv-loop μ-loop
-add-i c = omega arith
-
-loop-less : tie.Need-loop-less Inv-loop μ-loop
-loop-less c = omega arith
 
 loop-again : tie.Need-loop-again Inv-loop μ-loop
 loop-again c =
@@ -67,4 +55,6 @@ returns c =
 pub number-spec : {M : Type 1} → statement M
 number-spec =
     tie.close
-    (tie.spec Inv-loop μ-loop loop-holds add-byte shared-slice-read-byte cast-byte mul-v add-v add-i loop-less loop-again returns)
+    (tie.spec
+    Inv-loop μ-loop loop-holds (λ c. omega arith) (λ c. omega arith) cast-byte mul-v add-v (λ c. omega arith) (λ c. omega arith)
+    loop-again returns)

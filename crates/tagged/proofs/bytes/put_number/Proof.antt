@@ -19,21 +19,6 @@ abbrev μ-loop : tie.MeasureT-loop
 loop-holds : tie.Need-loop-holds Inv-loop μ-loop
 loop-holds c = (omega arith, refl, refl)
 
-sub-j : tie.Need-sub-j Inv-loop μ-loop
-sub-j c = omega arith
-
-cast-buf : tie.Need-cast-buf Inv-loop μ-loop
-cast-buf c = omega arith
-
-add-buf : tie.Need-add-buf Inv-loop μ-loop
-add-buf c = omega arith
-
-slice-write-buf : tie.Need-slice-write-buf Inv-loop μ-loop
-slice-write-buf c = omega arith
-
-loop-less : tie.Need-loop-less Inv-loop μ-loop
-loop-less c = omega arith
-
 loop-again : tie.Need-loop-again Inv-loop μ-loop
 loop-again c =
     let l = c .before .loop in
@@ -57,4 +42,6 @@ returns c =
 pub put-number-spec : {M : Type 1} → statement M
 put-number-spec =
     tie.close
-    (tie.spec Inv-loop μ-loop loop-holds sub-j cast-buf add-buf slice-write-buf loop-less loop-again same-length returns)
+    (tie.spec
+    Inv-loop μ-loop loop-holds (λ c. omega arith) (λ c. omega arith) (λ c. omega arith) (λ c. omega arith) (λ c. omega arith) loop-again
+    same-length returns)

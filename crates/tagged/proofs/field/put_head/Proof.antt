@@ -6,12 +6,6 @@ use borrow.Author.Needs.{needs}
 use Rattle.tagged.proofs.field.put_head.Statement.{statement}
 use Rattle.tagged.proofs.field.put_head.Tie as tie
 
-slice-write-buf : tie.Need-slice-write-buf
-slice-write-buf c = search needs
-
-add-put-number : tie.Need-add-put-number
-add-put-number c = search needs
-
 put-number-requires : tie.Need-put-number-requires
 put-number-requires c κs = simp length-set (omega arith)
 
@@ -23,4 +17,6 @@ returns c = rw add-one at (c .before .before .put-number .ensures)
 
 pub put-head-spec : {M : Type 1} → statement M
 put-head-spec =
-    tie.close (tie.spec slice-write-buf add-put-number put-number-requires same-length returns)
+    tie.close
+    (tie.spec
+    (λ c. search needs) (λ c. search needs) put-number-requires same-length returns)

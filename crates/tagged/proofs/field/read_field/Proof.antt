@@ -15,38 +15,14 @@ module _ (c : tie.After-found) where
   found : headAt (start .args .slice .now) (start .args .at) ≡ Of (c .found .given .0 .0) (c .found .given .0 .1 .0)
   found = sym (c .before .before .read-head .ensures) ∙ c .found .given .1
 
-read-head-requires : tie.Need-read-head-requires
-read-head-requires c κs = search needs
-
-enum-known-found : tie.Need-enum-known-found
-enum-known-found c = search needs
-
-enum-told : tie.Need-enum-told
-enum-told c = search needs
-
 returns : tie.Need-returns
 returns c = cut _ _ _ _ (omega (arith, cut-told _ _ (sym (c .before .before .read-head .ensures) ∙ c .enum-told .given .1)))
 
 sub-if1 : tie.Need-sub-if1
 sub-if1 c = omega (arith, head-told _ _ (found (c .before)))
 
-add-if1 : tie.Need-add-if1
-add-if1 c = search needs
-
 returns-2 : tie.Need-returns-2
 returns-2 c = cut _ _ _ _ (omega (arith, head-told _ _ (found (c .before .before))))
-
-add-next : tie.Need-add-next
-add-next c = search needs
-
-add-next-2 : tie.Need-add-next-2
-add-next-2 c = search needs
-
-add-number : tie.Need-add-number
-add-number c = search needs
-
-number-requires : tie.Need-number-requires
-number-requires c κs = search needs
 
 returns-3 : tie.Need-returns-3
 returns-3 c =
@@ -62,16 +38,5 @@ pub read-field-spec : {M : Type 1} → statement M
 read-field-spec =
     tie.close
     (tie.spec
-    read-head-requires
-    enum-known-found
-    enum-told
-    returns
-    sub-if1
-    add-if1
-    returns-2
-    add-next
-    add-next-2
-    add-number
-    number-requires
-    returns-3
-    returns-4)
+    (λ c κs. search needs) (λ c. search needs) (λ c. search needs) returns sub-if1 (λ c. search needs) returns-2 (λ c. search needs)
+    (λ c. search needs) (λ c. search needs) (λ c κs. search needs) returns-3 returns-4)

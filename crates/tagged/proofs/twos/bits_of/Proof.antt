@@ -53,4 +53,7 @@ returns-2 : tie.Need-returns-2
 returns-2 c = rw (back (c .before .fits .z)) (abs-nonneg (c .before .args .z) (above c) ∙ sym (bits-pos (c .before .args .z) (above c)))
 
 pub bits-of-spec : {M : Type 1} → statement M
-bits-of-spec = tie.close (tie.spec sub-result cast-result sub-result-2 cast-result-2 returns returns-2)
+bits-of-spec =
+    tie.close
+    (tie.spec
+    sub-result cast-result sub-result-2 cast-result-2 returns returns-2)

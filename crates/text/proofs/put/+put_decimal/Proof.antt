@@ -1,3 +1,4 @@
+-- `put_decimal` meets its contract: one digit, or the digits of the tenth part and one more; what falls is the number.
 use mathlib.Core.Path.{_∙_}
 use native.Mathlib.Omega.{arith}
 use lib.ListN.{length}

@@ -18,9 +18,6 @@ put-byte-requires c κs =
     let a = c .before .before .before .before .before .before .before .before .before .before .before .args in
     omega (arith, line-length (a .label .now) (decimal (a .n)))
 
-same-length : tie.Need-same-length
-same-length c = search needs
-
 returns : tie.Need-returns
 returns c =
     puts-line (c .before .before .before .before .before .before .before .before .before .before .put-bytes .ensures)
@@ -30,4 +27,5 @@ returns c =
 pub put-line-spec : {M : Type 1} → statement M
 put-line-spec =
     tie.close
-    (tie.spec put-bytes-requires put-decimal-requires put-byte-requires same-length returns)
+    (tie.spec
+    put-bytes-requires put-decimal-requires put-byte-requires (λ c. search needs) returns)

@@ -1,3 +1,4 @@
+-- `write` meets its contract: the three lines, each behind the one before, have room in the longest report.
 use Prim.Native.Nat.{_<_, _≤_, _^_}
 use native.Mathlib.Nat.{zero-add}
 use mathlib.Core.Path.{_≡_, _∙_}
@@ -28,9 +29,6 @@ module _ (s : tie.Start) where
 room : (c : tie.After-put-line-arg2) → length (c .before .before .args .out .now) ≡ 73
 room c = search needs
 
-slice-aggregate-put-line : tie.Need-slice-aggregate-put-line
-slice-aggregate-put-line c = search needs
-
 put-line-requires : tie.Need-put-line-requires
 put-line-requires c κs = omega (arith, first (c .before .before), room c)
 
@@ -39,12 +37,6 @@ put-position-requires c κs =
     let s = c .before .before .before .before .before in
     let p = c .before .before .put-line in
     rw (back (held s)) (omega (arith, first s, second s, room (c .before .before .before), p .kept .0, p .ensures .behind))
-
-slice-aggregate-put-line-2 : tie.Need-slice-aggregate-put-line-2
-slice-aggregate-put-line-2 c = search needs
-
-cast-put-line : tie.Need-cast-put-line
-cast-put-line c = search needs
 
 put-line-requires-2 : tie.Need-put-line-requires-2
 put-line-requires-2 c κs =
@@ -72,10 +64,4 @@ pub write-spec : {M : Type 1} → statement M
 write-spec =
     tie.close
     (tie.spec
-    slice-aggregate-put-line
-    put-line-requires
-    put-position-requires
-    slice-aggregate-put-line-2
-    cast-put-line
-    put-line-requires-2
-    returns)
+    (λ c. search needs) put-line-requires put-position-requires (λ c. search needs) (λ c. search needs) put-line-requires-2 returns)
