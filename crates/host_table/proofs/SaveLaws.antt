@@ -13,7 +13,7 @@ use Rattle.axis.specs.declared.row.Row.{Row}
 use Rattle.axis_sound.specs.declared.Status.{Status}
 use Rattle.axis_sound.specs.declared.Status.the-variants.{Empty, Sampled as Lines, Counter, Broken}
 use Rattle.record.specs.Answer.{writtenBytes}
-use Rattle.record.specs.Record.{within, recordOf, savedAs}
+use Rattle.record.specs.Record.{withinLimits, recordOf, savedAs}
 use Rattle.record.specs.declared.answer.Saved.{Saved}
 use Rattle.record.specs.declared.answer.Written.the-variants.{Bytes, Refused as Unwritten}
 use Rattle.record.proofs.RecordLaws.{written-shape}
@@ -33,7 +33,7 @@ record-few s = rw (written-shape s .long) (few (counterKind (s .config .kind)))
 
 saved-few : (room : ℕ) (s : Saved) → writtenBytes (savedAs room s) ≤ 34
 unfolding savedAs
-saved-few room s = go (within s) (leb (length (recordOf s)) room)
+saved-few room s = go (withinLimits s) (leb (length (recordOf s)) room)
   where
     go : (good fits : Bool) → writtenBytes (cond good (cond fits (Bytes (length (recordOf s))) (Unwritten Room)) (Unwritten Value)) ≤ 34
     go true true = record-few s

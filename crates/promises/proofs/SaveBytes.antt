@@ -14,7 +14,7 @@ use Rattle.axis.specs.Row.{axisOf}
 use Rattle.axis.specs.declared.row.Row.{Row}
 use Rattle.axis_sound.specs.declared.Status.{Status}
 use Rattle.axis_sound.specs.declared.Status.the-variants.{Empty, Sampled, Counter, Broken}
-use Rattle.record.specs.Record.{within, recordOf, savedAs, written}
+use Rattle.record.specs.Record.{withinLimits, recordOf, savedAs, written}
 use Rattle.record.specs.declared.answer.Saved.{Saved}
 use Rattle.record.proofs.RecordLaws.{saved-front}
 use Rattle.row_saving.specs.Saving.{savedOf, saveRow, savedIn}
@@ -22,19 +22,19 @@ use Rattle.runs.specs.Told.{Told, refused, wrote, toldBytes}
 
 -- Of what a record says: the bytes written are the record, where it fits.
 module _ (s : Saved) (b : List ℕ) where
-  front : within s ≡ true → length (recordOf s) ≤ length b → take (length (recordOf s)) (written b s) ≡ recordOf s
+  front : withinLimits s ≡ true → length (recordOf s) ≤ length b → take (length (recordOf s)) (written b s) ≡ recordOf s
   front w h = rw (saved-front b s w h) (take-at (recordOf s) (drop (length (recordOf s)) b) (length (recordOf s)) refl)
 
   -- what a save of it tells, by the room alone
   abbrev recorded : ℕ → Told
   recorded room =
-      cond (within s) (cond (leb (length (recordOf s)) room) (wrote (length (recordOf s)) (recordOf s)) (refused Room)) (refused Value)
+      cond (withinLimits s) (cond (leb (length (recordOf s)) room) (wrote (length (recordOf s)) (recordOf s)) (refused Room)) (refused Value)
 
   bytes-are : toldBytes (savedAs (length b) s) (written b s) ≡ recorded (length b)
   unfolding savedAs
-  bytes-are = go (test (within s)) (test (leb (length (recordOf s)) (length b)))
+  bytes-are = go (test (withinLimits s)) (test (leb (length (recordOf s)) (length b)))
     where
-      go : Tested (within s) → Tested (leb (length (recordOf s)) (length b)) → toldBytes (savedAs (length b) s) (written b s) ≡ recorded (length b)
+      go : Tested (withinLimits s) → Tested (leb (length (recordOf s)) (length b)) → toldBytes (savedAs (length b) s) (written b s) ≡ recorded (length b)
       go (no w) f = rw w
       go (yes w) (no f) = rw (w, f)
       go (yes w) (yes f) = let h = front w (leb-true (length (recordOf s)) (length b) f) in rw (w, f) (ap (wrote (length (recordOf s))) h)

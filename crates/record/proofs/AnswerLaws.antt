@@ -3,11 +3,12 @@ use mathlib.Core.Path.{_≡_, refl, sym, ap}
 use Rattle.refusal.proofs.RefusalLaws.{told-apart, above-zero}
 use Rattle.record.specs.declared.answer.Read.{Read}
 use Rattle.record.specs.declared.answer.Read.the-variants.{Accepted, Refused}
-use Rattle.record.specs.declared.answer.Tested.{Tested}
-use Rattle.record.specs.declared.answer.Tested.the-variants.{Accepted as Passed, Refused as Failed}
+use Rattle.record.specs.declared.answer.Checked.{Checked}
+use Rattle.record.specs.declared.answer.Checked.the-variants.{Accepted as Passed, Refused as Failed}
 use Rattle.record.specs.declared.answer.Written.{Written}
 use Rattle.record.specs.declared.answer.Written.the-variants.{Bytes, Refused as Unwritten}
-use Rattle.record.specs.Answer.{readNumber, readFound, readSaved, testedNumber, testedFound, writtenNumber, writtenFound, writtenBytes}
+use Rattle.record.specs.Answer.{readNumber, readFound, readSaved, testedNumber, testedFound}
+use Rattle.record.specs.Answer.{writtenNumber, writtenFound, writtenBytes}
 
 -- HEADLINE: the number, the number found and what is said determine what a reading answers.
 pub read-told : (a b : Read) → readNumber a ≡ readNumber b → readFound a ≡ readFound b → readSaved a ≡ readSaved b → a ≡ b
@@ -17,14 +18,15 @@ read-told (Refused r) (Accepted s) n f v = absurd (above-zero r n)
 read-told (Refused r) (Refused q) n f v = ap Refused (told-apart r q n f)
 
 -- HEADLINE: the number and the number found determine what a test answers.
-pub test-told : (a b : Tested) → testedNumber a ≡ testedNumber b → testedFound a ≡ testedFound b → a ≡ b
+pub test-told : (a b : Checked) → testedNumber a ≡ testedNumber b → testedFound a ≡ testedFound b → a ≡ b
 test-told Passed Passed n f = refl
 test-told Passed (Failed r) n f = absurd (above-zero r (sym n))
 test-told (Failed r) Passed n f = absurd (above-zero r n)
 test-told (Failed r) (Failed q) n f = ap Failed (told-apart r q n f)
 
 -- HEADLINE: the number, the number found and the number of bytes determine what a save answers.
-pub save-told : (a b : Written) → writtenNumber a ≡ writtenNumber b → writtenFound a ≡ writtenFound b → writtenBytes a ≡ writtenBytes b → a ≡ b
+pub save-told : (a b : Written) →
+    writtenNumber a ≡ writtenNumber b → writtenFound a ≡ writtenFound b → writtenBytes a ≡ writtenBytes b → a ≡ b
 save-told (Bytes m) (Bytes n) _ f v = ap Bytes v
 save-told (Bytes m) (Unwritten r) n f v = absurd (above-zero r (sym n))
 save-told (Unwritten r) (Bytes m) n f v = absurd (above-zero r n)

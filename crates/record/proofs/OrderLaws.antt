@@ -15,20 +15,35 @@ use Rattle.record.specs.declared.answer.Read.{Read}
 use Rattle.record.specs.declared.answer.Read.the-variants.{Accepted, Refused}
 use Rattle.tagged.specs.declared.field.Field.the-variants.{Value as Of, Bad}
 use Rattle.tagged.specs.Bytes.{numberAt, starts}
-use Rattle.opening.specs.Opening.{opening}
-use Rattle.record.specs.Record.{onField, check, layoutOr, unopened, knownKind, within, saying, endedAt, counterAt, sampledAt, readAs, LAYOUT, KIND, DEPTH, WIDTH, TURN, END}
 use Rattle.tagged.specs.Field.{standsAt, fieldAt}
-use Rattle.record.specs.Order.{otherLayout, layoutIn, nineStand, kindIn, restStands, saidIn, Judged, other-layout, bad-nine, bad-kind, bad-rest, bad-value, all-good}
+use Rattle.record.specs.declared.axis_fields.AxisRead.{AxisRead}
+use Rattle.record.specs.declared.axis_fields.AxisRead.the-variants.{Refused as Unsaid}
+use Rattle.record.specs.Opening.{opening}
+use Rattle.record.specs.Tags.{layoutTag, kindTag, depthTag, widthTag, turnTag, endTag}
+use Rattle.record.specs.AxisFields.{onField, knownKind, counterAs, sampledAs, counterAt, sampledAt, axisAt}
+use Rattle.record.specs.Record.{check, layoutFound, layoutRefusal, withinLimits, saying, endedAt, onAxis, readAs}
+use Rattle.record.specs.Order.{otherLayout, layoutIn, nineStand, kindIn, restStands, saidIn}
+use Rattle.record.specs.Order.{Judged, other-layout, bad-nine, bad-kind, bad-rest, bad-value, all-good}
 
 -- ---- the fields' answers as checks
 
-on-field : (s : List ℕ) (at tag n : ℕ) (k : ℕ → ℕ → Read) → onField (fieldAt s at tag n) k ≡ check (standsAt s at tag n) Record (k (numberAt s (at + 3) n) (at + 3 + n))
+pub on-field : {A : Type 0} (s : List ℕ) (at tag n : ℕ) (r : A) (k : ℕ → ℕ → A) →
+    onField r (fieldAt s at tag n) k ≡ cond (standsAt s at tag n) (k (numberAt s (at + 3) n) (at + 3 + n)) r
 unfolding fieldAt
-on-field s at tag n k = go (standsAt s at tag n)
+on-field s at tag n r k = go (standsAt s at tag n)
   where
-    go : (t : Bool) → onField (cond t (Of (numberAt s (at + 3) n) (at + 3 + n)) Bad) k ≡ check t Record (k (numberAt s (at + 3) n) (at + 3 + n))
+    go : (t : Bool) → onField r (cond t (Of (numberAt s (at + 3) n) (at + 3 + n)) Bad) k ≡ cond t (k (numberAt s (at + 3) n) (at + 3 + n)) r
     go true = refl
     go false = refl
+
+-- A check of an axis's fields is one of the record.
+on-axis : (t : Bool) (x : AxisRead) (r : Refusal) (k : Config → ℕ → ℕ → Read) → onAxis (cond t x (Unsaid r)) k ≡ check t r (onAxis x k)
+on-axis true x r k = refl
+on-axis false x r k = refl
+
+on-kind : (t : Bool) (x y : AxisRead) (k : Config → ℕ → ℕ → Read) → onAxis (cond t x y) k ≡ cond t (onAxis x k) (onAxis y k)
+on-kind true x y k = refl
+on-kind false x y k = refl
 
 -- Two checks with one refusal are one check of both.
 both : (a b : Bool) (r : Refusal) (x : Read) → check a r (check b r x) ≡ check (a && b) r x
@@ -37,37 +52,45 @@ both false b r x = refl
 
 -- The limits of what a configuration and the bits of a position say, after a check of the shape.
 abbrev judge : Bool → Config → ℕ → Read
-judge t c bits = check t Record (check (within (saying c bits)) Value (Accepted (saying c bits)))
+judge t c bits = check t Record (check (withinLimits (saying c bits)) Value (Accepted (saying c bits)))
 
-ended-is : (s : List ℕ) (at : ℕ) (c : Config) (bits : ℕ) → endedAt s at c bits ≡ check (standsAt s at END 0) Record (judge (eqb (length s) (at + 3 + 0)) c bits)
+-- What follows an axis's fields in a record.
+abbrev on : List ℕ → AxisRead → Read
+on s x = onAxis x (λ c bits at. endedAt s at c bits)
+
+ended-is : (s : List ℕ) (at : ℕ) (c : Config) (bits : ℕ) →
+    endedAt s at c bits ≡ check (standsAt s at endTag 0) Record (judge (eqb (length s) (at + 3 + 0)) c bits)
 unfolding endedAt
 ended-is s at c bits = rw on-field
 
-counter-is : (s : List ℕ) (kind bits : ℕ)
-    → counterAt s kind bits 20 ≡ judge (standsAt s 20 WIDTH 1 && standsAt s 24 END 0 && eqb (length s) 27) (record { kind = kind; depth = 0; width = numberAt s 23 1; turn = 0 }) bits
+counter-is : (s : List ℕ) (kind bits : ℕ) →
+    on s (counterAt s 20 kind bits)
+    ≡ judge (standsAt s 20 widthTag 1 && standsAt s 24 endTag 0 && eqb (length s) 27) (counterAs kind (numberAt s 23 1)) bits
 unfolding counterAt
-counter-is s kind bits = rw (on-field, ended-is, both, both)
+counter-is s kind bits = rw (on-field, on-axis, ended-is, both, both)
 
-sampled-is : (s : List ℕ) (kind bits : ℕ)
-    → sampledAt s kind bits 20
-    ≡ judge (standsAt s 20 DEPTH 1 && standsAt s 24 TURN 4 && standsAt s 31 END 0 && eqb (length s) 34) (record { kind = kind; depth = numberAt s 23 1; width = 0; turn = numberAt s 27 4 }) bits
+sampled-is : (s : List ℕ) (kind bits : ℕ) →
+    on s (sampledAt s 20 kind bits)
+    ≡ judge (standsAt s 20 depthTag 1 && standsAt s 24 turnTag 4 && standsAt s 31 endTag 0 && eqb (length s) 34)
+    (sampledAs kind (numberAt s 23 1) (numberAt s 27 4)) bits
 unfolding sampledAt
-sampled-is s kind bits = rw (on-field, on-field, ended-is, both, both, both)
+sampled-is s kind bits = rw (on-field, on-field, on-axis, on-axis, ended-is, both, both, both)
 
 by-kind : (k t u : Bool) (c d : Config) (bits : ℕ) → cond k (judge t c bits) (judge u d bits) ≡ judge (cond k t u) (cond k c d) bits
 by-kind true t u c d bits = refl
 by-kind false t u c d bits = refl
 
 -- LAYOUT is looked at before the opening's other bytes.
-layout-first : (o t : Bool) (n next : ℕ) (x : Read) → check o (layoutOr (cond t (Of n next) Bad)) x ≡ check (not (t && not o)) (Layout n) (check o Record x)
+layout-first : (o t : Bool) (n next : ℕ) (x : Read) →
+    check o (layoutFound (cond t (Of n next) Bad)) x ≡ check (not (t && not o)) (Layout n) (check o Record x)
 layout-first true true n next x = refl
 layout-first true false n next x = refl
 layout-first false true n next x = refl
 layout-first false false n next x = refl
 
-unopened-is : (s : List ℕ) → unopened s ≡ layoutOr (cond (standsAt s 0 LAYOUT 2) (Of (layoutIn s) 5) Bad)
-unfolding unopened fieldAt
-unopened-is s = refl
+layout-is : (s : List ℕ) → layoutRefusal s ≡ layoutFound (cond (standsAt s 0 layoutTag 2) (Of (layoutIn s) 5) Bad)
+unfolding layoutRefusal fieldAt
+layout-is s = refl
 
 -- The checks one after another, each by itself.
 in-order : (s : List ℕ)
@@ -76,15 +99,16 @@ in-order : (s : List ℕ)
     (check (nineStand s) Record
     (check (knownKind (kindIn s)) Value
     (check (restStands s) Record
-    (check (within (saidIn s)) Value
+    (check (withinLimits (saidIn s)) Value
     (Accepted (saidIn s))))))
-unfolding readAs otherLayout nineStand restStands saidIn
-in-order s = rw (unopened-is, layout-first, on-field, both, on-field, counter-is, sampled-is, by-kind, both)
+unfolding readAs axisAt otherLayout nineStand restStands saidIn
+in-order s =
+    rw (layout-is, layout-first, on-field, on-axis, both, on-axis, on-field, on-axis, on-kind, counter-is, sampled-is, by-kind, both)
 
 -- A slice with the opening is of no other layout.
 one-layout : (s : List ℕ) → nineStand s ≡ true → otherLayout s ≡ false
 unfolding nineStand otherLayout
-one-layout s n = go (starts opening s) (standsAt s 5 KIND 1) (standsAt s 0 LAYOUT 2) n
+one-layout s n = go (starts opening s) (standsAt s 5 kindTag 1) (standsAt s 0 layoutTag 2) n
   where
     go : (o u t : Bool) → (o && u) ≡ true → (t && not o) ≡ false
     go true u true h = refl
@@ -92,9 +116,11 @@ one-layout s n = go (starts opening s) (standsAt s 5 KIND 1) (standsAt s 0 LAYOU
     go false u t h = absurd (subst T (sym h) tt)
 
 judged : (s : List ℕ) → Judged s (readAs s)
-judged s = go (test (otherLayout s)) (test (nineStand s)) (test (knownKind (kindIn s))) (test (restStands s)) (test (within (saidIn s)))
+judged s =
+    go (test (otherLayout s)) (test (nineStand s)) (test (knownKind (kindIn s))) (test (restStands s)) (test (withinLimits (saidIn s)))
   where
-    go : Tested (otherLayout s) → Tested (nineStand s) → Tested (knownKind (kindIn s)) → Tested (restStands s) → Tested (within (saidIn s)) → Judged s (readAs s)
+    go : Tested (otherLayout s) → Tested (nineStand s) → Tested (knownKind (kindIn s)) → Tested (restStands s) →
+        Tested (withinLimits (saidIn s)) → Judged s (readAs s)
     go (yes l) _ _ _ _ = other-layout l (in-order s ∙ rw l)
     go (no l) (no n) _ _ _ = bad-nine l n (in-order s ∙ rw (l, n))
     go (no l) (yes n) (no k) _ _ = bad-kind n k (in-order s ∙ rw (l, n, k))
@@ -109,27 +135,6 @@ judges s (bad-kind n k e) = in-order s ∙ rw (one-layout s n, n, k) (sym e)
 judges s (bad-rest n k r e) = in-order s ∙ rw (one-layout s n, n, k, r) (sym e)
 judges s (bad-value n k r w e) = in-order s ∙ rw (one-layout s n, n, k, r, w) (sym e)
 judges s (all-good n k r w e) = in-order s ∙ rw (one-layout s n, n, k, r, w) (sym e)
-
--- What an accepted slice passed, and what it says.
-pub record Passed (s : List ℕ) (said : Saved) : Type 0 where
-  pub nine : nineStand s ≡ true
-  pub rest : restStands s ≡ true
-  pub limits : within said ≡ true
-  pub says : said ≡ saidIn s
-
-never : {r : Refusal} {said : Saved} → Accepted said ≡ Refused r → ⊥
-never e = let z : _≡_ {A = ℕ} 0 1 = cc in omega arith
-
-pub passed : (s : List ℕ) (said : Saved) → readAs s ≡ Accepted said → Passed s said
-passed s said h = go (subst (Judged s) h (judged s))
-  where
-    go : Judged s (Accepted said) → Passed s said
-    go (other-layout l e) = absurd (never e)
-    go (bad-nine l n e) = absurd (never e)
-    go (bad-kind n k e) = absurd (never e)
-    go (bad-rest n k r e) = absurd (never e)
-    go (bad-value n k r w e) = absurd (never e)
-    go (all-good n k r w e) = let q : said ≡ saidIn s = cc in record { nine = n; rest = r; limits = ap within q ∙ w; says = q }
 
 -- HEADLINE: a slice is answered by a reason, or accepted, exactly when the line of the first failing check says so.
 pub exactly : (s : List ℕ) (r : Read) → (readAs s ≡ r → Judged s r) × (Judged s r → readAs s ≡ r)

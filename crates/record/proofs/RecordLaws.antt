@@ -2,7 +2,7 @@
 use mathlib.Core.Path.{_≡_, refl, sym, ap, _∙_, subst}
 use mathlib.Core.Bool.{true, not, cond, _&&_}
 use mathlib.Core.List.{List, [], _∷_, _++_}
-use Prim.Native.Nat.{ℕ, _^_, _≤_, _<_}
+use Prim.Native.Nat.{ℕ, _+_, _^_, _≤_, _<_}
 use native.Mathlib.Nat.{zero-add}
 use native.Mathlib.Omega.{arith}
 use borrow.Author.Tests.{le-leb}
@@ -11,7 +11,7 @@ use lib.IntN.{negsuc}
 use lib.ListN.{length, take, drop}
 use lib.Seq.{sets, sets-eq}
 use Rattle.refusal.proofs.OutcomeLaws.{one}
-use Rattle.integers.proofs.Balance.{Tested as Told, yes, no, test}
+use Rattle.integers.proofs.Balance.{Tested, yes, no, test}
 use Rattle.refusal.specs.declared.Refusal.{Refusal}
 use Rattle.refusal.specs.declared.Refusal.the-variants.{Room, Layout}
 use Rattle.position.specs.Position.{inRange}
@@ -20,23 +20,26 @@ use Rattle.axis.specs.Config.{goodConfig}
 use Rattle.record.specs.declared.answer.Saved.{Saved}
 use Rattle.record.specs.declared.answer.Read.{Read}
 use Rattle.record.specs.declared.answer.Read.the-variants.{Accepted, Refused}
-use Rattle.record.specs.declared.answer.Tested.{Tested}
-use Rattle.record.specs.declared.answer.Tested.the-variants.{Accepted as Passes, Refused as Fails}
+use Rattle.record.specs.declared.answer.Checked.{Checked}
+use Rattle.record.specs.declared.answer.Checked.the-variants.{Accepted as Passes, Refused as Fails}
 use Rattle.record.specs.declared.answer.Written.{Written}
 use Rattle.record.specs.declared.answer.Written.the-variants.{Refused as Unwritten}
 use Rattle.tagged.specs.Bytes.{AllBytes, numberIn, numberFrom, bytesOf, starts}
 use Rattle.record.specs.Answer.{readNumber, readFound, testedOf, testedNumber, testedFound}
-use Rattle.opening.specs.Opening.{opening}
-use Rattle.record.specs.Record.{within, readAs, testedAs, headBytes, counterBytes, sampledBytes, recordOf, savedAs, written, Saves, Shaped, LAYOUT}
+use Rattle.record.specs.Opening.{opening}
+use Rattle.record.specs.Tags.{layoutTag}
+use Rattle.record.specs.AxisFields.{frontBytes, settingBytes, axisBytes, axisLength}
+use Rattle.record.specs.Record.{withinLimits, readAs, testedAs, recordOf, savedAs, written, SavedInto, Shaped}
 use Rattle.tagged.specs.Field.{fieldBytes}
-use Rattle.record.specs.Order.{otherLayout, layoutIn, Judged, other-layout, bad-nine, bad-kind, bad-rest, bad-value, all-good}
+use Rattle.record.specs.Order.{otherLayout, layoutIn}
+use Rattle.record.specs.Order.{Judged, other-layout, bad-nine, bad-kind, bad-rest, bad-value, all-good}
 use Rattle.tagged.proofs.BytesLaws.{number-back, starts-is}
-use Rattle.record.proofs.OrderLaws.{exactly, passed}
-use Rattle.record.proofs.RoundTrip.{written-read, read-written}
-use Rattle.record.proofs.WriterLaws.{counter-long, sampled-long, counter-record, sampled-record}
+use Rattle.record.proofs.OrderLaws.{exactly}
+use Rattle.record.proofs.RoundTrip.{passed, written-read, read-written}
+use Rattle.record.proofs.WriterLaws.{record-long}
 
 -- HEADLINE: what is written within its limits is read back as it was.
-pub read-back : (s : Saved) → within s ≡ true → readAs (recordOf s) ≡ Accepted s
+pub read-back : (s : Saved) → withinLimits s ≡ true → readAs (recordOf s) ≡ Accepted s
 read-back s w = written-read s w
 
 -- HEADLINE: a slice of bytes that is accepted is the one record of what it says.
@@ -49,25 +52,26 @@ one-slice s t said b c h k = sym (one-encoding s said b h) ∙ one-encoding t sa
 
 -- HEADLINE: every record that is written opens with the five bytes and has 34 or 27.
 pub written-shape : (s : Saved) → Shaped (s .config .kind) (recordOf s)
-unfolding counterBytes sampledBytes headBytes fieldBytes
-written-shape s = go (test (counterKind (s .config .kind)))
+unfolding recordOf
+written-shape s = record { opens = refl; long = record-long s ∙ go (test (counterKind (s .config .kind))) }
   where
-    go : Told (counterKind (s .config .kind)) → Shaped (s .config .kind) (recordOf s)
-    go (yes k) = record { opens = rw (counter-record s k); long = rw k (counter-long s k) }
-    go (no k) = record { opens = rw (sampled-record s k); long = rw k (sampled-long s k) }
+    go : Tested (counterKind (s .config .kind)) → 8 + axisLength (s .config .kind) ≡ cond (counterKind (s .config .kind)) 27 34
+    go (yes k) = rw k
+    go (no k) = rw k
 
 -- HEADLINE: every slice of bytes that is accepted opens with the five bytes and has 34 or 27.
 pub accepted-shape : (s : List ℕ) (said : Saved) → AllBytes s → readAs s ≡ Accepted said → Shaped (said .config .kind) s
 accepted-shape s said b h = subst (Shaped (said .config .kind)) (one-encoding s said b h) (written-shape said)
 
 -- HEADLINE: what is accepted is within its limits.
-pub accepted-within : (s : List ℕ) (said : Saved) → readAs s ≡ Accepted said → within said ≡ true
+pub accepted-within : (s : List ℕ) (said : Saved) → readAs s ≡ Accepted said → withinLimits said ≡ true
 accepted-within s said h = passed s said h .limits
 
 -- ---- the test
 
 -- HEADLINE: the test accepts exactly the slices that the reader accepts.
-pub test-accepts : (s : List ℕ) → (testedAs s ≡ Passes → (said : Saved) × (readAs s ≡ Accepted said)) × ((said : Saved) → readAs s ≡ Accepted said → testedAs s ≡ Passes)
+pub test-accepts : (s : List ℕ) →
+    (testedAs s ≡ Passes → (said : Saved) × (readAs s ≡ Accepted said)) × ((said : Saved) → readAs s ≡ Accepted said → testedAs s ≡ Passes)
 test-accepts s = (go (readAs s), λ said h. rw h)
   where
     go : (r : Read) → testedOf r ≡ Passes → (said : Saved) × (r ≡ Accepted said)
@@ -75,7 +79,8 @@ test-accepts s = (go (readAs s), λ said h. rw h)
     go (Refused r) h = let z : _≡_ {A = ℕ} 0 1 = cc in absurd (omega arith)
 
 -- HEADLINE: the test refuses exactly the slices that the reader refuses, for the same reason.
-pub test-refuses : (s : List ℕ) (q : Refusal) → (testedAs s ≡ Fails q → readAs s ≡ Refused q) × (readAs s ≡ Refused q → testedAs s ≡ Fails q)
+pub test-refuses : (s : List ℕ) (q : Refusal) →
+    (testedAs s ≡ Fails q → readAs s ≡ Refused q) × (readAs s ≡ Refused q → testedAs s ≡ Fails q)
 test-refuses s q = (go (readAs s), λ h. rw h)
   where
     go : (r : Read) → testedOf r ≡ Fails q → r ≡ Refused q
@@ -93,24 +98,26 @@ test-numbers s = go (readAs s)
 -- ---- another layout
 
 -- A slice with the layout field of a number other than 1, whatever follows.
-other-opening : (n : ℕ) (rest : List ℕ) → n < 256 ^ 2 → (n ≡ 1 → ⊥) → otherLayout (fieldBytes LAYOUT 2 n ++ rest) ≡ true
+other-opening : (n : ℕ) (rest : List ℕ) → n < 256 ^ 2 → (n ≡ 1 → ⊥) → otherLayout (fieldBytes layoutTag 2 n ++ rest) ≡ true
 unfolding otherLayout fieldBytes bytesOf numberFrom
 other-opening n rest h other = rw (le-leb 5 (length s) (omega arith)) (go (test (starts opening s)))
   where
     s : List ℕ
-    s = fieldBytes LAYOUT 2 n ++ rest
+    s = fieldBytes layoutTag 2 n ++ rest
 
-    go : Told (starts opening s) → not (starts opening s) ≡ true
+    go : Tested (starts opening s) → not (starts opening s) ≡ true
     go (no e) = rw e
     go (yes e) = absurd (other (sym (number-back 2 n h) ∙ ap (λ (l : List ℕ). numberIn (take 2 (drop 3 l))) (starts-is opening s e)))
 
 -- HEADLINE: a slice that opens 01 00 02 and then a number other than 1 is refused by LAYOUT with that number, by reader and test,
 -- whatever follows.
-pub layout-refused : (n : ℕ) (rest : List ℕ) → n < 256 ^ 2 → (n ≡ 1 → ⊥) → (readAs (fieldBytes LAYOUT 2 n ++ rest) ≡ Refused (Layout n)) × (testedAs (fieldBytes LAYOUT 2 n ++ rest) ≡ Fails (Layout n))
+pub layout-refused : (n : ℕ) (rest : List ℕ) → n < 256 ^ 2 → (n ≡ 1 → ⊥) →
+    (readAs (fieldBytes layoutTag 2 n ++ rest) ≡ Refused (Layout n)) × (testedAs (fieldBytes layoutTag 2 n ++ rest) ≡ Fails (Layout n))
 unfolding fieldBytes bytesOf
 layout-refused n rest h other =
-    let s = fieldBytes LAYOUT 2 n ++ rest in
-    let e = exactly s (Refused (Layout n)) .1 (other-layout (other-opening n rest h other) (ap (λ (m : ℕ). Refused (Layout m)) (sym (number-back 2 n h)))) in
+    let s = fieldBytes layoutTag 2 n ++ rest in
+    let found = ap (λ (m : ℕ). Refused (Layout m)) (sym (number-back 2 n h)) in
+    let e = exactly s (Refused (Layout n)) .1 (other-layout (other-opening n rest h other) found) in
     (e, test-refuses s (Layout n) .1 e)
 
 -- HEADLINE: no other slice is refused by LAYOUT, and the number is the one that stands there.
@@ -128,16 +135,18 @@ layout-found s n h = go (exactly s (Refused (Layout n)) .0 h)
 -- ---- the buffer of a save
 
 -- HEADLINE: where nothing is refused the record stands at the front, and every byte beyond it is as it was.
-pub saved-front : (b : List ℕ) (s : Saved) → within s ≡ true → length (recordOf s) ≤ length b → written b s ≡ recordOf s ++ drop (length (recordOf s)) b
+pub saved-front : (b : List ℕ) (s : Saved) → withinLimits s ≡ true → length (recordOf s) ≤ length b →
+    written b s ≡ recordOf s ++ drop (length (recordOf s)) b
 unfolding written
 saved-front b s w h = rw (w, le-leb (length (recordOf s)) (length b) h) (sets-eq (recordOf s) b 0 (rw zero-add h) ∙ rw zero-add)
 
 -- HEADLINE: a refused save leaves every byte as it was.
 pub refused-kept : (b : List ℕ) (s : Saved) (r : Refusal) → savedAs (length b) s ≡ Unwritten r → written b s ≡ b
 unfolding savedAs written
-refused-kept b s r h = go (test (within s)) (test (leb (length (recordOf s)) (length b)))
+refused-kept b s r h = go (test (withinLimits s)) (test (leb (length (recordOf s)) (length b)))
   where
-    go : Told (within s) → Told (leb (length (recordOf s)) (length b)) → cond (within s && leb (length (recordOf s)) (length b)) (sets b 0 (recordOf s)) b ≡ b
+    go : Tested (withinLimits s) → Tested (leb (length (recordOf s)) (length b)) →
+        cond (withinLimits s && leb (length (recordOf s)) (length b)) (sets b 0 (recordOf s)) b ≡ b
     go (no w) _ = rw w
     go (yes w) (no l) = rw (w, l)
     go (yes w) (yes l) = let e = rw (w, l) at h in let z : _≡_ {A = ℕ} 0 1 = cc in absurd (omega arith)
@@ -149,11 +158,11 @@ pub read-one : (s : List ℕ) (q r : Read) → q ≡ readAs s → r ≡ readAs s
 read-one s q r = one
 
 -- HEADLINE: testing a slice has one outcome.
-pub test-one : (s : List ℕ) (q r : Tested) → q ≡ testedAs s → r ≡ testedAs s → q ≡ r
+pub test-one : (s : List ℕ) (q r : Checked) → q ≡ testedAs s → r ≡ testedAs s → q ≡ r
 test-one s q r = one
 
 -- HEADLINE: saving into a buffer has one outcome, answer and buffer.
-pub save-one : (b : List ℕ) (s : Saved) (q r : Written) (c d : List ℕ) → Saves b s q c → Saves b s r d → (q ≡ r) × (c ≡ d)
+pub save-one : (b : List ℕ) (s : Saved) (q r : Written) (c d : List ℕ) → SavedInto b s q c → SavedInto b s r d → (q ≡ r) × (c ≡ d)
 save-one b s q r c d h k = (one (h .0) (k .0), one (h .1) (k .1))
 
 -- ---- the saved reading of document 01, "Readings to hold it against"
@@ -162,11 +171,14 @@ abbrev pub x4 : Saved
 x4 = record { config = record { kind = X4; depth = 3; width = 0; turn = 4096 }; position = negsuc 1 }
 
 -- HEADLINE: x4, depth 3, 4096 counts per turn, position -2, byte for byte.
-pub x4-record : recordOf x4 ≡ 1 ∷ 0 ∷ 2 ∷ 0 ∷ 1 ∷ 2 ∷ 0 ∷ 1 ∷ 4 ∷ 3 ∷ 0 ∷ 8 ∷ 255 ∷ 255 ∷ 255 ∷ 255 ∷ 255 ∷ 255 ∷ 255 ∷ 254 ∷ 4 ∷ 0 ∷ 1 ∷ 3 ∷ 6 ∷ 0 ∷ 4 ∷ 0 ∷ 0 ∷ 16 ∷ 0 ∷ 127 ∷ 0 ∷ 0 ∷ []
-unfolding recordOf sampledBytes headBytes fieldBytes bytesOf
+pub x4-record :
+    recordOf x4
+    ≡ 1 ∷ 0 ∷ 2 ∷ 0 ∷ 1 ∷ 2 ∷ 0 ∷ 1 ∷ 4 ∷ 3 ∷ 0 ∷ 8 ∷ 255 ∷ 255 ∷ 255 ∷ 255 ∷ 255 ∷ 255 ∷ 255 ∷ 254
+    ∷ 4 ∷ 0 ∷ 1 ∷ 3 ∷ 6 ∷ 0 ∷ 4 ∷ 0 ∷ 0 ∷ 16 ∷ 0 ∷ 127 ∷ 0 ∷ 0 ∷ []
+unfolding recordOf axisBytes frontBytes settingBytes fieldBytes bytesOf
 x4-record = refl
 
 -- HEADLINE: a buffer of 33 bytes has no room for it.
 pub x4-room : savedAs 33 x4 ≡ Unwritten Room
-unfolding savedAs within goodConfig inRange recordOf sampledBytes headBytes fieldBytes bytesOf
+unfolding savedAs withinLimits goodConfig inRange recordOf axisBytes frontBytes settingBytes fieldBytes bytesOf
 x4-room = refl

@@ -1,66 +1,68 @@
 -- The laws of a save: what it answers and leaves, by its checks.
-use mathlib.Core.Path.{_≡_}
+use mathlib.Core.Path.{_≡_, _∙_}
 use mathlib.Core.Bool.{true, false}
 use mathlib.Core.List.{List}
-use Prim.Native.Nat.{ℕ, _≤_, _<_}
+use Prim.Native.Nat.{ℕ, _+_, _≤_, _<_}
+use native.Mathlib.Nat.{zero-add}
+use native.Mathlib.Omega.{arith}
 use borrow.Author.Tests.{le-leb, lt-leb}
-use lib.ListN.{length}
-use lib.Seq.{sets}
+use lib.ListN.{length, length-append}
 use mir.Syntax.{w64}
 use mir.Val.{ofZ}
 use Rattle.refusal.specs.declared.Refusal.the-variants.{Value, Room}
 use Rattle.axis.specs.Kind.{counterKind}
+use Rattle.tagged.specs.Bytes.{bytesOf}
+use Rattle.tagged.specs.Store.{Puts}
+use Rattle.tagged.specs.Field.{fieldBytes}
+use Rattle.tagged.proofs.StoreLaws.{puts-then}
 use Rattle.record.specs.declared.answer.Saved.{Saved}
 use Rattle.record.specs.declared.answer.Written.the-variants.{Bytes, Refused}
-use Rattle.tagged.specs.Bytes.{bytesOf}
-use Rattle.record.specs.Record.{within, headBytes, counterBytes, sampledBytes, recordOf, savedAs, written, Saves}
-use Rattle.tagged.specs.Field.{fieldBytes}
+use Rattle.record.specs.Opening.{opening}
+use Rattle.record.specs.Tags.{depthTag, widthTag, turnTag, endTag}
+use Rattle.record.specs.AxisFields.{frontBytes, settingBytes, axisBytes, axisLength}
+use Rattle.record.specs.Record.{withinLimits, recordOf, savedAs, written, SavedInto}
+use Rattle.record.proofs.AxisLaws.{axis-long}
 
--- Which of the two records is written, and how long it is.
-module _ (s : Saved) where
-  pub counter-record : counterKind (s .config .kind) ≡ true → recordOf s ≡ counterBytes (s .config .kind) (ofZ w64 (s .position)) (s .config .width)
-  unfolding recordOf
-  counter-record k = rw k
+-- The fields of an axis, put one after another.
+module _ (s : Saved) {bits : ℕ} {b m d : List ℕ} {at j r : ℕ} (e : bits ≡ ofZ w64 (s .position)) where
+  pub puts-counter : counterKind (s .config .kind) ≡ true → Puts (frontBytes (s .config .kind) bits) b at m j →
+      Puts (fieldBytes widthTag 1 (s .config .width)) m j d r → Puts (axisBytes s) b at d r
+  unfolding axisBytes settingBytes
+  puts-counter k p q = rw (k, ← e) (puts-then p q)
 
-  pub sampled-record : counterKind (s .config .kind) ≡ false → recordOf s ≡ sampledBytes (s .config .kind) (ofZ w64 (s .position)) (s .config .depth) (s .config .turn)
-  unfolding recordOf
-  sampled-record k = rw k
+  pub puts-sampled : {l : List ℕ} {i : ℕ} → counterKind (s .config .kind) ≡ false → Puts (frontBytes (s .config .kind) bits) b at m j →
+      Puts (fieldBytes depthTag 1 (s .config .depth)) m j l i → Puts (fieldBytes turnTag 4 (s .config .turn)) l i d r →
+      Puts (axisBytes s) b at d r
+  unfolding axisBytes settingBytes
+  puts-sampled k p q t = rw (k, ← e) (puts-then p (puts-then q t))
 
-  pub counter-long : counterKind (s .config .kind) ≡ true → length (recordOf s) ≡ 27
-  unfolding counterBytes headBytes fieldBytes bytesOf
-  counter-long k = rw (counter-record k)
+-- The opening, the fields and the end, put one after another.
+pub puts-record : (s : Saved) {b m l d : List ℕ} {i j r : ℕ} →
+    Puts opening b 0 m i → Puts (axisBytes s) m i l j → Puts (fieldBytes endTag 0 0) l j d r → Puts (recordOf s) b 0 d r
+unfolding recordOf
+puts-record s p q f = puts-then p (puts-then q f)
 
-  pub sampled-long : counterKind (s .config .kind) ≡ false → length (recordOf s) ≡ 34
-  unfolding sampledBytes headBytes fieldBytes bytesOf
-  sampled-long k = rw (sampled-record k)
+-- A record is eight bytes longer than its axis's fields.
+pub record-long : (s : Saved) → length (recordOf s) ≡ 8 + axisLength (s .config .kind)
+unfolding recordOf fieldBytes bytesOf
+record-long s = simp length-append (omega (arith, axis-long s))
 
 module _ (b : List ℕ) (s : Saved) where
   -- Outside the limits.
-  pub outside : within s ≡ false → Saves b s (Refused Value) b
+  pub outside : withinLimits s ≡ false → SavedInto b s (Refused Value) b
   unfolding savedAs written
   outside w = (rw w, rw w)
 
-  module _ (w : within s ≡ true) where
+  module _ (w : withinLimits s ≡ true) where
     -- Without room.
-    no-room : {n : ℕ} → length (recordOf s) ≡ n → length b < n → Saves b s (Refused Room) b
+    pub no-room : length b < 8 + axisLength (s .config .kind) → SavedInto b s (Refused Room) b
     unfolding savedAs written
-    no-room {n} e h = let l = lt-leb n (length b) h in (rw (w, e, l), rw (w, e, l))
+    no-room h = let l = lt-leb (length (recordOf s)) (length b) (rw (record-long s) h) in (rw (w, l), rw (w, l))
 
-    pub counter-full : counterKind (s .config .kind) ≡ true → length b < 27 → Saves b s (Refused Room) b
-    counter-full k = no-room (counter-long s k)
-
-    pub sampled-full : counterKind (s .config .kind) ≡ false → length b < 34 → Saves b s (Refused Room) b
-    sampled-full k = no-room (sampled-long s k)
-
-    -- With room, the bits of the position written.
-    wrote : {n : ℕ} {last : List ℕ} → length (recordOf s) ≡ n → n ≤ length b → last ≡ sets b 0 (recordOf s) → Saves b s (Bytes n) last
+    -- With room.
+    pub wrote : {n : ℕ} {last : List ℕ} → 8 + axisLength (s .config .kind) ≤ length b → Puts (recordOf s) b 0 last n →
+        SavedInto b s (Bytes n) last
     unfolding savedAs written
-    wrote {n} e h p = let l = le-leb n (length b) h in (rw (w, e, l), rw (w, e, l) p)
-
-    pub counter-wrote : {bits : ℕ} {last : List ℕ} → counterKind (s .config .kind) ≡ true → bits ≡ ofZ w64 (s .position) → 27 ≤ length b
-        → last ≡ sets b 0 (counterBytes (s .config .kind) bits (s .config .width)) → Saves b s (Bytes 27) last
-    counter-wrote k e h p = wrote (counter-long s k) h (rw (counter-record s k, ← e) p)
-
-    pub sampled-wrote : {bits : ℕ} {last : List ℕ} → counterKind (s .config .kind) ≡ false → bits ≡ ofZ w64 (s .position) → 34 ≤ length b
-        → last ≡ sets b 0 (sampledBytes (s .config .kind) bits (s .config .depth) (s .config .turn)) → Saves b s (Bytes 34) last
-    sampled-wrote k e h p = wrote (sampled-long s k) h (rw (sampled-record s k, ← e) p)
+    wrote h p =
+        let l = le-leb (length (recordOf s)) (length b) (rw (record-long s) h) in
+        (rw (w, l, p .behind, zero-add), rw (w, l) (p .buffer))

@@ -2,17 +2,20 @@
 use axis::config::Config;
 use refusal::Refusal;
 
+// What a record says: a configuration and a position.
 pub struct Saved {
     pub config: Config,
     pub position: i64,
 }
 
+// What a reading makes of a record, or why it is refused.
 pub enum Read {
     Accepted(Saved),
     Refused(Refusal),
 }
 
-pub enum Tested {
+// What a test says of a record.
+pub enum Checked {
     Accepted,
     Refused(Refusal),
 }

@@ -1,28 +1,24 @@
 // The reader and the test of a record.
 ghost use mathlib.Core.Path.{_≡_};
-ghost use Rattle.record.specs.Record.{unopened, endedAt, counterAt, sampledAt, knownKind, readAs, testedAs};
+ghost use Rattle.record.specs.Record.{layoutRefusal, endedAt, readAs, testedAs};
+use crate::answer::Checked;
 use crate::answer::Read;
 use crate::answer::Saved;
-use crate::answer::Tested;
+use crate::axis_fields::AxisRead;
+use crate::axis_fields::read_axis;
 use crate::limits::is_within;
-use crate::tags::DEPTH;
+use crate::opening::opens;
 use crate::tags::END;
-use crate::tags::KIND;
 use crate::tags::LAYOUT;
-use crate::tags::POSITION;
-use crate::tags::TURN;
-use crate::tags::WIDTH;
 use axis::config::Config;
-use axis::kind::Kind;
-use opening::opens;
 use refusal::Refusal;
 use tagged::field::Field;
 use tagged::field::read_field;
 use tagged::twos::of_bits;
 
-// Why a slice without the opening is refused.
-fn why_unopened(slice: &[u8]) -> Refusal
-    ensures { λ r. ⌜ r ≡ unopened (now (slice .entry)) ⌝ }
+// The LAYOUT refusal of a slice without the opening, or RECORD where it has no layout field.
+fn layout_refusal(slice: &[u8]) -> Refusal
+    ensures { λ r. ⌜ r ≡ layoutRefusal (now (slice .entry)) ⌝ }
 {
     let Field::Value(layout, _) = read_field(slice, 0, LAYOUT, 2) else {
         return Refusal::Record;
@@ -50,88 +46,25 @@ fn ended(slice: &[u8], at: usize, config: Config, bits: u64) -> Read
     Read::Accepted(saved)
 }
 
-// A counter's fields after the position.
-fn read_counter(slice: &[u8], kind: u8, bits: u64, at: usize) -> Read
-    ensures { λ r. ⌜ r ≡ counterAt (now (slice .entry)) kind bits at ⌝ }
-{
-    let Field::Value(width, at) = read_field(slice, at, WIDTH, 1) else {
-        return Read::Refused(Refusal::Record);
-    };
-    let width = width as u8;
-    ended(
-        slice,
-        at,
-        Config {
-            kind,
-            depth: 0,
-            width,
-            turn: 0,
-        },
-        bits,
-    )
-}
-
-// A sampled axis's fields after the position.
-fn read_sampled(slice: &[u8], kind: u8, bits: u64, at: usize) -> Read
-    ensures { λ r. ⌜ r ≡ sampledAt (now (slice .entry)) kind bits at ⌝ }
-{
-    let Field::Value(depth, at) = read_field(slice, at, DEPTH, 1) else {
-        return Read::Refused(Refusal::Record);
-    };
-    let Field::Value(turn, at) = read_field(slice, at, TURN, 4) else {
-        return Read::Refused(Refusal::Record);
-    };
-    let depth = depth as u8;
-    let turn = turn as u32;
-    ended(
-        slice,
-        at,
-        Config {
-            kind,
-            depth,
-            width: 0,
-            turn,
-        },
-        bits,
-    )
-}
-
-// Whether a number is one of the four kinds.
-fn is_known(kind: u64) -> bool
-    ensures { λ r. ⌜ r ≡ knownKind kind ⌝ }
-{
-    Kind::is_sampled(kind) | Kind::is_counter(kind)
-}
-
 // What a record says, or why it is refused: the first check that fails.
 pub fn read(slice: &[u8]) -> Read
     ensures { λ r. ⌜ r ≡ readAs (now (slice .entry)) ⌝ }
 {
     if !opens(slice) {
-        return Read::Refused(why_unopened(slice));
+        return Read::Refused(layout_refusal(slice));
     }
-    let Field::Value(kind, at) = read_field(slice, 5, KIND, 1) else {
-        return Read::Refused(Refusal::Record);
-    };
-    if !is_known(kind) {
-        return Read::Refused(Refusal::Value);
-    }
-    let Field::Value(bits, at) = read_field(slice, at, POSITION, 8) else {
-        return Read::Refused(Refusal::Record);
-    };
-    if Kind::is_counter(kind) {
-        read_counter(slice, kind as u8, bits, at)
-    } else {
-        read_sampled(slice, kind as u8, bits, at)
+    match read_axis(slice, 5) {
+        AxisRead::Said(config, bits, at) => ended(slice, at, config, bits),
+        AxisRead::Refused(r) => Read::Refused(r),
     }
 }
 
 // Whether the reader accepts a record, or its refusal.
-pub fn test(slice: &[u8]) -> Tested
+pub fn test(slice: &[u8]) -> Checked
     ensures { λ r. ⌜ r ≡ testedAs (now (slice .entry)) ⌝ }
 {
     match read(slice) {
-        Read::Accepted(_) => Tested::Accepted,
-        Read::Refused(r) => Tested::Refused(r),
+        Read::Accepted(_) => Checked::Accepted,
+        Read::Refused(r) => Checked::Refused(r),
     }
 }

@@ -1,14 +1,15 @@
-// The writer of a record.
+// The writer of a record, and of one axis's fields at any place.
+ghost use Prim.Native.Nat.{_+_, _≤_};
 ghost use mathlib.Core.Path.{_≡_};
-ghost use Prim.Native.Nat.{_≤_};
 ghost use lib.ListN.{length};
-ghost use lib.Seq.{sets};
-ghost use Rattle.record.specs.Record.{headBytes, counterBytes, sampledBytes, Saves};
+ghost use Rattle.tagged.specs.Store.{Puts};
+ghost use Rattle.record.specs.AxisFields.{frontBytes, axisBytes, axisLength};
+ghost use Rattle.record.specs.Record.{SavedInto};
 use axis::kind::Kind;
-use opening::put_opening;
 use record::answer::Saved;
 use record::answer::Written;
 use record::limits::is_within;
+use record::opening::OPENING;
 use record::tags::DEPTH;
 use record::tags::END;
 use record::tags::KIND;
@@ -16,60 +17,56 @@ use record::tags::POSITION;
 use record::tags::TURN;
 use record::tags::WIDTH;
 use refusal::Refusal;
+use tagged::bytes::put_bytes;
 use tagged::field::put_field;
 use tagged::twos::bits_of;
 
-// The opening, the kind and the position.
-fn put_head(buf: &mut [u8], kind: u64, bits: u64)
-    requires { ⌜ 20 ≤ length (now buf) ⌝ }
-    ensures { λ _. ⌜ now (buf .exit) ≡ sets (now (buf .entry)) 0 (headBytes kind bits) ⌝ }
+// How many bytes the fields of an axis of a kind are.
+pub fn axis_length(kind: u64) -> usize
+    ensures { λ r. ⌜ r ≡ axisLength kind ⌝ }
 {
-    put_opening(buf);
-    put_field(buf, 5, KIND, 1, kind);
-    put_field(buf, 9, POSITION, 8, bits);
+    if Kind::is_counter(kind) {
+        return 19;
+    }
+    26
 }
 
-// A counter's record.
-fn put_counter(buf: &mut [u8], kind: u64, bits: u64, width: u64)
-    requires { ⌜ 27 ≤ length (now buf) ⌝ }
-    ensures { λ _. ⌜ now (buf .exit) ≡ sets (now (buf .entry)) 0 (counterBytes kind bits width) ⌝ }
+// The kind and the position of an axis at at; answers where the next field begins.
+fn put_front(buf: &mut [u8], at: usize, kind: u64, bits: u64) -> usize
+    requires { ⌜ at + 15 ≤ length (now buf) ⌝ }
+    ensures { λ r. ⌜ Puts (frontBytes kind bits) (now (buf .entry)) at (now (buf .exit)) r ⌝ }
 {
-    put_head(buf, kind, bits);
-    put_field(buf, 20, WIDTH, 1, width);
-    put_field(buf, 24, END, 0, 0);
+    let at = put_field(buf, at, KIND, 1, kind);
+    put_field(buf, at, POSITION, 8, bits)
 }
 
-// A sampled axis's record.
-fn put_sampled(buf: &mut [u8], kind: u64, bits: u64, depth: u64, turn: u64)
-    requires { ⌜ 34 ≤ length (now buf) ⌝ }
-    ensures { λ _. ⌜ now (buf .exit) ≡ sets (now (buf .entry)) 0 (sampledBytes kind bits depth turn) ⌝ }
+// The fields of an axis at at; answers where the next field begins.
+pub fn put_axis(buf: &mut [u8], at: usize, saved: Saved) -> usize
+    requires { ⌜ at + axisLength (saved .config .kind) ≤ length (now buf) ⌝ }
+    ensures { λ r. ⌜ Puts (axisBytes saved) (now (buf .entry)) at (now (buf .exit)) r ⌝ }
 {
-    put_head(buf, kind, bits);
-    put_field(buf, 20, DEPTH, 1, depth);
-    put_field(buf, 24, TURN, 4, turn);
-    put_field(buf, 31, END, 0, 0);
+    let c = saved.config;
+    let kind = c.kind as u64;
+    let at = put_front(buf, at, kind, bits_of(saved.position));
+    if Kind::is_counter(kind) {
+        return put_field(buf, at, WIDTH, 1, c.width as u64);
+    }
+    let at = put_field(buf, at, DEPTH, 1, c.depth as u64);
+    put_field(buf, at, TURN, 4, c.turn as u64)
 }
 
 // The record at the front of a buffer, or the buffer as it was.
 pub fn save(buf: &mut [u8], saved: Saved) -> Written
-    ensures { λ r. ⌜ Saves (now (buf .entry)) saved r (now (buf .exit)) ⌝ }
+    ensures { λ r. ⌜ SavedInto (now (buf .entry)) saved r (now (buf .exit)) ⌝ }
 {
     if !is_within(saved) {
         return Written::Refused(Refusal::Value);
     }
     let c = saved.config;
-    let kind = c.kind as u64;
-    let bits = bits_of(saved.position);
-    if Kind::is_counter(kind) {
-        if buf.len() < 27 {
-            return Written::Refused(Refusal::Room);
-        }
-        put_counter(buf, kind, bits, c.width as u64);
-        return Written::Bytes(27);
-    }
-    if buf.len() < 34 {
+    if buf.len() < 8 + axis_length(c.kind as u64) {
         return Written::Refused(Refusal::Room);
     }
-    put_sampled(buf, kind, bits, c.depth as u64, c.turn as u64);
-    Written::Bytes(34)
+    let at = put_bytes(buf, 0, &OPENING);
+    let at = put_axis(buf, at, saved);
+    Written::Bytes(put_field(buf, at, END, 0, 0))
 }

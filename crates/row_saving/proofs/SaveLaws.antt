@@ -10,7 +10,7 @@ use lib.ListN.{length, take, drop}
 use lib.Seq.{take-append-seam}
 use borrow.Author.Tests.{le-leb, leb-true}
 use Rattle.integers.proofs.Balance.{Tested, yes, no, test}
-use Rattle.position.specs.Position.{inRange, wordOf}
+use Rattle.position.specs.Position.{wordOf}
 use Rattle.position.proofs.PositionLaws.{word-low, word-high, position-in-range, position-word, word-position}
 use Rattle.refusal.specs.declared.Refusal.{Refusal}
 use Rattle.refusal.specs.declared.Refusal.the-variants.{Kind as KIND, Room as ROOM}
@@ -23,16 +23,17 @@ use Rattle.axis_sound.specs.Sound.{statusOf}
 use Rattle.axis.specs.declared.row.Axis.{Axis}
 use Rattle.axis.specs.declared.row.Row.{Row}
 use Rattle.axis_sound.specs.declared.Status.the-variants.{Sampled, Counter, Broken}
-use Rattle.axis.proofs.TestLaws.{both, either}
+use Rattle.axis.proofs.TestLaws.{either}
 use Rattle.axis_sound.proofs.PassLaws.{sampled-config}
 use Rattle.axis_sound.proofs.SoundLaws.{sampled-gives, counter-gives, counter-config, packed-again}
 use Rattle.tagged.specs.Bytes.{AllBytes}
 use Rattle.record.specs.Answer.{writtenNumber}
-use Rattle.record.specs.Record.{within, readAs, recordOf, savedAs, written}
+use Rattle.record.specs.Record.{withinLimits, readAs, recordOf, savedAs, written}
 use Rattle.record.specs.declared.answer.Saved.{Saved}
 use Rattle.record.specs.declared.answer.Read.{Read}
 use Rattle.record.specs.declared.answer.Read.the-variants.{Accepted, Refused as Unread}
 use Rattle.record.specs.declared.answer.Written.the-variants.{Bytes, Refused as Unwritten}
+use Rattle.record.proofs.LimitsLaws.{within-parts}
 use Rattle.record.proofs.RecordLaws.{read-back, one-encoding, accepted-within, saved-front}
 use Rattle.row_calls.specs.Change.{changed, presetAxis, Holds}
 use Rattle.row_calls.specs.Reasons.{StatusReasons}
@@ -44,14 +45,8 @@ use Rattle.row_calls.proofs.ChangeLaws.{to-one, kept-not}
 use Rattle.row_calls.proofs.ReasonLaws.{Past, both-kinds}
 use Rattle.row_calls.proofs.SetupLaws.{config-holds}
 
--- What is within its limits is a configuration and a position.
-pub within-parts : (s : Saved) → within s ≡ true →
-    (goodConfig (s .config .kind) (s .config .depth) (s .config .width) (s .config .turn) ≡ true) × (inRange (s .position) ≡ true)
-unfolding within
-within-parts s e = both (goodConfig (s .config .kind) (s .config .depth) (s .config .width) (s .config .turn)) (inRange (s .position)) e
-
 -- The row of what a record says holds the axis that it says.
-said-holds : (said : Saved) → within said ≡ true →
+said-holds : (said : Saved) → withinLimits said ≡ true →
     Holds (rowOf (freshAt (said .config) (wordOf (said .position)))) (cond (sampledKind (said .config .kind)) Sampled Counter) (freshAt (said .config) (wordOf (said .position)))
 said-holds said e =
     let p = within-parts said e in
@@ -92,8 +87,8 @@ unfolding goodConfig
 counter-good k d v n e = either (sampledConfig k d v n) (counterConfig k d v n) (λ _. e)
 
 -- The configuration and the position of a sound row are within their limits.
-saved-within : (r : Row) → Live r → within (savedOf (axisOf r)) ≡ true
-unfolding within
+saved-within : (r : Row) → Live r → withinLimits (savedOf (axisOf r)) ≡ true
+unfolding withinLimits
 saved-within r (inl e) =
     let s = sampled-gives r e in
     let a = axisOf r in
@@ -181,7 +176,7 @@ unfolding Past savedAs
 save-past room s =
     let size = length (recordOf s) in
     let fitted = after-either checked writtenNumber KIND (leb size room) (Bytes size) (Unwritten ROOM) (inl refl) (inr (lit< tt)) in
-    after-either checked writtenNumber KIND (within s) _ _ fitted (inr (lit< tt))
+    after-either checked writtenNumber KIND (withinLimits s) _ _ fitted (inr (lit< tt))
 
 -- HEADLINE: save takes both kinds.
 pub save-reasons : (room : ℕ) (r : Row) → StatusReasons (writtenNumber (saveRow room r)) (statusOf r) ⊥

@@ -15,7 +15,7 @@ use Rattle.axis_sound.specs.Sound.{statusOf}
 use Rattle.axis.specs.declared.row.Row.{Row}
 use Rattle.axis_sound.specs.declared.Status.{Status}
 use Rattle.axis_sound.specs.declared.Status.the-variants.{Empty, Sampled, Counter, Broken}
-use Rattle.record.specs.Record.{within, recordOf, savedAs, written}
+use Rattle.record.specs.Record.{withinLimits, recordOf, savedAs, written}
 use Rattle.record.specs.declared.answer.Saved.{Saved}
 use Rattle.record.specs.declared.answer.Written.the-variants.{Bytes, Refused as Unwritten}
 use Rattle.record.proofs.RecordLaws.{saved-front, refused-kept}
@@ -42,9 +42,9 @@ module _ (b : List ℕ) where
   -- What a save says that it wrote of a record stands at the front of the buffer.
   record-fronts : (s : Saved) (n : ℕ) → savedAs (length b) s ≡ Bytes n → Fronts (recordOf s) b n (written b s)
   unfolding savedAs
-  record-fronts s n = go (within s) refl (leb (length (recordOf s)) (length b)) refl
+  record-fronts s n = go (withinLimits s) refl (leb (length (recordOf s)) (length b)) refl
     where
-      go : (x : Bool) → within s ≡ x → (y : Bool) → leb (length (recordOf s)) (length b) ≡ y →
+      go : (x : Bool) → withinLimits s ≡ x → (y : Bool) → leb (length (recordOf s)) (length b) ≡ y →
           cond x (cond y (Bytes (length (recordOf s))) (Unwritten Room)) (Unwritten Value) ≡ Bytes n →
           Fronts (recordOf s) b n (written b s)
       go true w true l q =

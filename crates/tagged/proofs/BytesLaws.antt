@@ -3,7 +3,8 @@ use mathlib.Core.Path.{_≡_, refl, sym, ap, _∙_, subst}
 use mathlib.Core.Bool.{Bool, true, false, _&&_}
 use mathlib.Core.List.{List, [], _∷_, _++_, append-assoc, append-nil}
 use Prim.Native.Nat.{ℕ, zero, suc, _+_, _*_, _/_, _%_, _^_, _≤_, _<_}
-use native.Mathlib.Nat.{div-add-mod', add-zero, zero-add, add-suc, suc-add, mul-le-mul-right, mul-assoc, pow-succ', pow-le-pow-right, lt-of-lt-of-le}
+use native.Mathlib.Nat.{div-add-mod', add-zero, zero-add, add-suc, suc-add, mul-le-mul-right, mul-assoc}
+use native.Mathlib.Nat.{pow-succ', pow-le-pow-right, lt-of-lt-of-le}
 use native.Mathlib.Numerals.{add-one}
 use native.Mathlib.Omega.{arith}
 use borrow.Author.Tests.{eq-eqb, ne-eqb, eqb-true}
@@ -46,7 +47,8 @@ from-below v (x ∷ xs) b =
     let h = from-below (v * 256 + x) xs (λ i. b (suc i)) in
     let l : suc (v * 256 + x) ≤ suc v * 256 = omega (arith, b 0) in
     let k = mul-le-mul-right (256 ^ length xs) l in
-    subst (λ (m : ℕ). numberFrom (v * 256 + x) xs < m) (mul-assoc (suc v) 256 (256 ^ length xs) ∙ ap (λ (m : ℕ). suc v * m) (sym (pow-succ' 256 (length xs)))) (lt-of-lt-of-le h k)
+    let e = mul-assoc (suc v) 256 (256 ^ length xs) ∙ ap (λ (m : ℕ). suc v * m) (sym (pow-succ' 256 (length xs))) in
+    subst (λ (m : ℕ). numberFrom (v * 256 + x) xs < m) e (lt-of-lt-of-le h k)
 
 pub number-below : (s : List ℕ) (at n : ℕ) → AllBytes s → numberAt s at n < 256 ^ n
 number-below s at n b =
@@ -65,7 +67,8 @@ pub starts-yes : (xs s : List ℕ) → length xs ≤ length s → ((k : ℕ) →
 unfolding starts
 starts-yes [] s l h = refl
 starts-yes (x ∷ xs) [] l h = absurd (omega arith)
-starts-yes (x ∷ xs) (y ∷ ys) l h = rw (eq-eqb x y (sym (h 0 (omega arith)))) (starts-yes xs ys (omega arith) (λ k p. h (suc k) (omega arith)))
+starts-yes (x ∷ xs) (y ∷ ys) l h =
+    rw (eq-eqb x y (sym (h 0 (omega arith)))) (starts-yes xs ys (omega arith) (λ k p. h (suc k) (omega arith)))
 
 pub starts-short : (xs s : List ℕ) → length s < length xs → starts xs s ≡ false
 unfolding starts
@@ -103,7 +106,9 @@ pub number-back : (n v : ℕ) → v < 256 ^ n → numberIn (bytesOf n v) ≡ v
 unfolding bytesOf numberFrom
 number-back zero v h = omega arith
 number-back (suc n) v h =
-    number-snoc 0 (bytesOf n (v / 256)) (v % 256) ∙ ap (λ (k : ℕ). k * 256 + v % 256) (number-back n (v / 256) (omega (arith, div-add-mod' v 256))) ∙ div-add-mod' v 256
+    number-snoc 0 (bytesOf n (v / 256)) (v % 256)
+    ∙ ap (λ (k : ℕ). k * 256 + v % 256) (number-back n (v / 256) (omega (arith, div-add-mod' v 256)))
+    ∙ div-add-mod' v 256
 
 bytes-from : (n v : ℕ) (xs : List ℕ) → AllBytes xs → bytesOf (n + length xs) (numberFrom v xs) ≡ bytesOf n v ++ xs
 unfolding numberFrom bytesOf

@@ -1,3 +1,4 @@
 pub mod BytesLaws
 pub mod StoreLaws
 pub mod FieldLaws
+pub mod TwosLaws

@@ -1,9 +1,10 @@
-// Numbers in bytes, high byte first.
+// Bytes, and numbers in bytes, high byte first.
 ghost use mathlib.Core.Path.{_≡_};
 ghost use Prim.Native.Nat.{_+_, _≤_};
 ghost use lib.ListN.{length};
 ghost use lib.Seq.{sets};
 ghost use Rattle.tagged.specs.Bytes.{numberAt, bytesOf};
+ghost use Rattle.tagged.specs.Store.{Puts};
 
 // The number in n bytes from at.
 pub fn number(slice: &[u8], at: usize, n: usize) -> u64
@@ -32,4 +33,17 @@ pub fn put_number(buf: &mut [u8], at: usize, n: usize, v: u64)
         buf[at + j] = (rest % 256) as u8;
         rest = rest / 256;
     }
+}
+
+// Bytes from a place on; answers the place behind them.
+pub fn put_bytes(out: &mut [u8], at: usize, bytes: &[u8]) -> usize
+    requires { ⌜ at + length (now bytes) ≤ length (now out) ⌝ }
+    ensures { λ r. ⌜ Puts (now (bytes .entry)) (now (out .entry)) at (now (out .exit)) r ⌝ }
+{
+    let mut i = 0;
+    while i < bytes.len() {
+        out[at + i] = bytes[i];
+        i += 1;
+    }
+    at + i
 }

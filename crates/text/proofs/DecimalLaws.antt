@@ -41,7 +41,8 @@ decimal-one n h = digit-one n n h
 pub decimal-more : (n : ℕ) → 10 ≤ n → decimal n ≡ decimal (n / 10) ++ ((ZERO + n % 10) ∷ [])
 unfolding decimal
 decimal-more n h =
-    digit-more n n h ∙ ap (λ (ds : List ℕ). ds ++ ((ZERO + n % 10) ∷ [])) (digits-enough n (suc (n / 10)) (n / 10) (omega arith) (omega arith))
+    digit-more n n h
+    ∙ ap (λ (ds : List ℕ). ds ++ ((ZERO + n % 10) ∷ [])) (digits-enough n (suc (n / 10)) (n / 10) (omega arith) (omega arith))
 
 -- What holds below ten, and of a number where it holds of its tenth part, holds of every number.
 module _ (P : ℕ → Type 0) (one : (n : ℕ) → n < 10 → P n) (rest : (n : ℕ) → 10 ≤ n → P (n / 10) → P n) where
@@ -91,4 +92,5 @@ decimal-value = by-digits (λ n. valueFrom 0 (decimal n) ≡ n)
 pub decimal-lead : (n : ℕ) → 0 < n → ZERO < getD (decimal n) 0 0
 decimal-lead = by-digits (λ n. 0 < n → ZERO < getD (decimal n) 0 0)
     (λ n h some. rw (decimal-one n h) (omega arith))
-    (λ n h f some. rw (decimal-more n h, List·getD-append (decimal (n / 10)) ((ZERO + n % 10) ∷ []) 0 0 (decimal-some (n / 10))) (f (omega arith)))
+    (λ n h f some.
+    rw (decimal-more n h, List·getD-append (decimal (n / 10)) ((ZERO + n % 10) ∷ []) 0 0 (decimal-some (n / 10))) (f (omega arith)))

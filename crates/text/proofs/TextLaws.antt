@@ -1,38 +1,24 @@
 -- The laws of a report's text: document 01, "Trace program".
 use Prim.Native.Nat.{ℕ, suc, _+_, _/_, _%_, _^_, _≤_, _<_}
-use native.Mathlib.Numerals.{add-one}
 use native.Mathlib.Omega.{arith}
 use mathlib.Core.Path.{_≡_, refl, sym, ap, subst, _∙_}
 use mathlib.Core.Bool.{true, false}
 use mathlib.Core.List.{List, [], _∷_, _++_}
 use lib.Dec.{T}
-use lib.IntN.{ℤ, pos, negsuc, natAbs, _-ℤ_}
+use lib.IntN.{ℤ, pos, negsuc, natAbs}
 use lib.Signed.{ltZ}
-use lib.ListN.{length, take, getD, set, length-append}
-use lib.Seq.{sets, take-suc, length-take-le}
+use lib.ListN.{length, length-append}
 use borrow.Author.Tests.{ltb-true}
 use mir.Syntax.{w64}
 use mir.Val.{SFits}
-use Rattle.integers.specs.Integer.{plus, minus}
-use Rattle.integers.proofs.Balance.{abs-is, bal-sub, ltZ-true}
-use Rattle.integers.proofs.Machine.{i64-fits, fits-size, no-neg, no-pos, abs-nonneg}
-use Rattle.tagged.proofs.StoreLaws.{sets-then}
-use Rattle.text.specs.Text.{FEED, MINUS, ZERO, samplesLabel, positionLabel, doublesLabel, decimal, numeral, lineOf, textOf, Puts}
+use Rattle.integers.proofs.Balance.{abs-is}
+use Rattle.integers.proofs.Machine.{i64-fits, no-pos, abs-nonneg}
+use Rattle.tagged.specs.Store.{Puts}
+use Rattle.tagged.proofs.StoreLaws.{puts-then}
+use Rattle.tagged.proofs.TwosLaws.{short, below, short-above, short-is}
+use Rattle.text.specs.Text.{FEED, MINUS, ZERO, samplesLabel, positionLabel, doublesLabel, decimal, numeral, lineOf, textOf}
 use Rattle.text.specs.declared.report.Report.{Report}
 use Rattle.text.proofs.DecimalLaws.{decimal-some, decimal-one, decimal-more, decimal-length}
-
--- The first bytes of a run from a place on, and one more.
-pub sets-next : (b : List ℕ) (at : ℕ) (bytes : List ℕ) (i : ℕ) → i < length bytes →
-    set (sets b at (take i bytes)) (at + i) (getD bytes i 0) ≡ sets b at (take (i + 1) bytes)
-sets-next b at bytes i h =
-    rw (add-one, take-suc bytes i 0 h) (sets-then b at (at + i) (take i bytes) (getD bytes i 0 ∷ []) (ap (λ (k : ℕ). at + k) (length-take-le i bytes (omega arith))))
-
--- Bytes, and bytes behind them, are bytes in a row.
-pub puts-then : {xs ys b m d : List ℕ} {at j r : ℕ} → Puts xs b at m j → Puts ys m j d r → Puts (xs ++ ys) b at d r
-puts-then {xs} {ys} {b} {m} {d} {at} {j} {r} p q = record {
-  buffer = q .buffer ∙ ap (λ (l : List ℕ). sets l j ys) (p .buffer) ∙ sets-then b at j xs ys (sym (p .behind));
-  behind = simp length-append (omega (arith, p .behind, q .behind));
-}
 
 -- ---- a number's digits
 
@@ -61,7 +47,8 @@ unfolding lineOf
 line-length label ds = simp length-append (omega arith)
 
 -- A label, digits and a line feed are a line.
-pub puts-line : {label ds b m l d : List ℕ} {at i j r : ℕ} → Puts label b at m i → Puts ds m i l j → Puts (FEED ∷ []) l j d r → Puts (lineOf label ds) b at d r
+pub puts-line : {label ds b m l d : List ℕ} {at i j r : ℕ} →
+    Puts label b at m i → Puts ds m i l j → Puts (FEED ∷ []) l j d r → Puts (lineOf label ds) b at d r
 unfolding lineOf
 puts-line p q f = puts-then p (puts-then q f)
 
@@ -86,28 +73,15 @@ position-below z e = rw (numeral-below z e)
 pub position-above : (z : ℤ) → ltZ z (pos 0) ≡ false → lineOf positionLabel (numeral z) ≡ lineOf positionLabel (decimal (natAbs z))
 position-above z e = ap (lineOf positionLabel) (numeral-above z e)
 
--- A number z below zero: -1 - z is one short of its size, and the machine holds both.
+-- The size of a number z below zero is one more than that of -1 - z, and the machine holds both.
 module _ (z : ℤ) (f : SFits w64 z) (h : ltZ z (pos 0) ≡ true) where
-  abbrev pub short : ℤ
-  short = negsuc 0 -ℤ z
+  pub size-is : natAbs (short z f h) + 1 ≡ natAbs z
+  size-is =
+      let n = no-pos z (omega (arith, below z f h)) in
+      omega (arith, short-is z f h, abs-nonneg (short z f h) (short-above z f h), abs-is z, n)
 
-  below : plus z < minus z
-  below = omega (arith, ltZ-true z (pos 0) h)
-
-  pub short-above : minus short ≤ plus short
-  short-above = omega (arith, below, bal-sub (negsuc 0) z)
-
-  short-is : plus short + 1 ≡ minus z
-  short-is = omega (arith, no-neg short short-above, no-pos z (omega (arith, below)), bal-sub (negsuc 0) z)
-
-  pub short-fits : SFits w64 short
-  short-fits = fits-size short (omega (arith, short-is, no-neg short short-above, i64-fits f))
-
-  pub size-is : natAbs short + 1 ≡ natAbs z
-  size-is = omega (arith, short-is, abs-nonneg short short-above, abs-is z, no-pos z (omega (arith, below)))
-
-  pub size-fits : natAbs short + 1 < 2 ^ 64
-  size-fits = omega (arith, short-is, abs-nonneg short short-above, i64-fits f)
+  pub size-fits : natAbs (short z f h) + 1 < 2 ^ 64
+  size-fits = omega (arith, short-is z f h, abs-nonneg (short z f h) (short-above z f h), i64-fits f)
 
 -- ---- the room of a report
 
@@ -129,7 +103,8 @@ position-room (negsuc n) f =
 
 -- The three lines in a row are the report's text.
 pub puts-text : (r : Report) {b m l d : List ℕ} {i j n : ℕ} →
-    Puts (lineOf samplesLabel (decimal (r .samples))) b 0 m i → Puts (lineOf positionLabel (numeral (r .position))) m i l j → Puts (lineOf doublesLabel (decimal (r .doubles))) l j d n →
+    Puts (lineOf samplesLabel (decimal (r .samples))) b 0 m i → Puts (lineOf positionLabel (numeral (r .position))) m i l j →
+    Puts (lineOf doublesLabel (decimal (r .doubles))) l j d n →
     Puts (textOf r) b 0 d n
 unfolding textOf
 puts-text r p q f = puts-then p (puts-then q f)

@@ -60,11 +60,6 @@ doublesLabel = 100 ∷ 111 ∷ 117 ∷ 98 ∷ 108 ∷ 101 ∷ 115 ∷ 32 ∷ []
 unfoldable pub textOf : Report → List ℕ
 textOf r = lineOf samplesLabel (decimal (r .samples)) ++ (lineOf positionLabel (numeral (r .position)) ++ lineOf doublesLabel (decimal (r .doubles)))
 
--- What putting bytes from a place on promises: b before, d after, and the place behind them.
-pub record Puts (bytes b : List ℕ) (at : ℕ) (d : List ℕ) (next : ℕ) : Type 0 where
-  pub buffer : d ≡ sets b at bytes
-  pub behind : next ≡ at + length bytes
-
 -- What writing a report promises: its text at the front of the buffer and no other byte, the number of its bytes, and that they fit.
 pub record Writes (r : Report) (b d : List ℕ) (n : ℕ) : Type 0 where
   pub buffer : d ≡ sets b 0 (textOf r)

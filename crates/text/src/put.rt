@@ -4,20 +4,9 @@ ghost use mathlib.Core.List.{[], _∷_};
 ghost use Prim.Native.Nat.{_+_, _≤_, _<_};
 ghost use lib.ListN.{length};
 ghost use lib.IntN.{natAbs};
-ghost use Rattle.text.specs.Text.{ZERO, decimal, lineOf, Puts};
-
-// Bytes from a place on; answers the place behind them.
-fn put_bytes(out: &mut [u8], at: usize, bytes: &[u8]) -> usize
-    requires { ⌜ at + length (now bytes) ≤ length (now out) ⌝ }
-    ensures { λ r. ⌜ Puts (now (bytes .entry)) (now (out .entry)) at (now (out .exit)) r ⌝ }
-{
-    let mut i = 0;
-    while i < bytes.len() {
-        out[at + i] = bytes[i];
-        i += 1;
-    }
-    at + i
-}
+ghost use Rattle.text.specs.Text.{ZERO, decimal, lineOf};
+ghost use Rattle.tagged.specs.Store.{Puts};
+use tagged::bytes::put_bytes;
 
 // One byte at a place; answers the place behind it.
 fn put_byte(out: &mut [u8], at: usize, byte: u8) -> usize

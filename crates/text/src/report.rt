@@ -1,7 +1,8 @@
 // What a trace has counted, and its three lines of text.
 ghost use Prim.Native.Nat.{_+_, _≤_};
 ghost use lib.ListN.{length};
-ghost use Rattle.text.specs.Text.{numeral, lineOf, positionLabel, Puts, Writes};
+ghost use Rattle.text.specs.Text.{numeral, lineOf, positionLabel, Writes};
+ghost use Rattle.tagged.specs.Store.{Puts};
 use crate::put::put_line;
 use crate::put::size;
 

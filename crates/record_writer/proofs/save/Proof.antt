@@ -1,111 +1,56 @@
-use borrow.Author.Needs.{needs}
-use mathlib.Core.Path.{_≡_, sym, ap, _∙_}
+use mathlib.Core.Path.{_≡_, sym, _∙_}
 use mathlib.Core.Bool.{true}
 use native.Mathlib.Omega.{arith}
 use borrow.Author.Tests.{not-true, not-false}
-use mir.Syntax.{w64}
-use mir.Val.{SFits, ofZ}
-use Rattle.integers.proofs.Machine.{back}
-use Rattle.record.specs.Record.{within}
-use Rattle.record.proofs.WriterLaws.{outside, counter-full, counter-wrote, sampled-full, sampled-wrote}
+use Rattle.record.specs.Record.{withinLimits}
+use Rattle.record.proofs.AxisLaws.{axis-long, length-bounds}
+use Rattle.record.proofs.WriterLaws.{outside, no-room, wrote, puts-record}
+use borrow.Author.Needs.{needs}
 use Rattle.record_writer.proofs.save.Statement.{statement}
 use Rattle.record_writer.proofs.save.Tie as tie
 
-module _ (c : tie.After-is-counter) where
+module _ (c : tie.After-axis-length) where
   abbrev start : tie.Start
-  start = c .before .before .before .before .before .before .before .before
+  start = c .before .before .before .before .before .before
 
-  good : within (start .args .saved) ≡ true
-  good = let e = c .before .before .before .before .before in sym (e .before .is-within .ensures) ∙ not-false _ (e .if1 .left)
-
-  -- the bits of the position
-  fits : SFits w64 (start .args .saved .position)
-  fits = search needs
-
-  placed : c .before .bits-of .result ≡ ofZ w64 (start .args .saved .position)
-  placed = c .before .bits-of .ensures ∙ ap (ofZ w64) (back fits)
-
-is-within-requires : tie.Need-is-within-requires
-is-within-requires c κs = search needs
+  good : withinLimits (start .args .saved) ≡ true
+  good = sym (c .before .before .before .before .is-within .ensures) ∙ not-false _ (c .before .before .before .if1 .left)
 
 returns : tie.Need-returns
 returns c =
     let a = c .before .before .before .args in
     outside (a .buf .now) (a .saved) (sym (c .before .is-within .ensures) ∙ not-true _ (c .if1 .taken))
 
-cast-kind : tie.Need-cast-kind
-cast-kind c = search needs
-
-bits-of-requires : tie.Need-bits-of-requires
-bits-of-requires c κs = search needs
-
-is-counter-requires : tie.Need-is-counter-requires
-is-counter-requires c κs = search needs
+add-if2 : tie.Need-add-if2
+add-if2 c = record { fits = omega (arith, c .axis-length .ensures, length-bounds (start c .args .saved .config .kind)) }
 
 returns-2 : tie.Need-returns-2
 returns-2 c =
-    let i = c .before .before in
-    let a = start i .args in
-    counter-full (a .buf .now) (a .saved) (good i) (sym (i .is-counter .ensures) ∙ c .before .if2 .taken) (c .if3 .taken)
+    let l = c .before in
+    no-room (start l .args .buf .now) (start l .args .saved) (good l) (omega (arith, l .axis-length .ensures, c .if2 .taken))
 
-cast-put-counter : tie.Need-cast-put-counter
-cast-put-counter c = search needs
-
-put-counter-requires : tie.Need-put-counter-requires
-put-counter-requires c κs = search needs
-
-same-length : tie.Need-same-length
-same-length c = search needs
+put-field-requires : tie.Need-put-field-requires
+put-field-requires c κs =
+    let o = c .before .before .before .before .before .before .before .before .before .before in
+    let l = o .before in
+    let p = c .before .before .before .before .before .before .before .put-bytes in
+    let q = c .before .before .before .put-axis in
+    let n = axis-long (start l .args .saved) in
+    omega (arith, l .axis-length .ensures, o .if2 .left, p .kept .0, p .ensures .behind, q .kept .0, q .ensures .behind)
 
 returns-3 : tie.Need-returns-3
 returns-3 c =
-    let e = c .before .before .before .before .before in
-    let i = e .before .before in
-    let a = start i .args in
-    counter-wrote (a .buf .now) (a .saved) (good i) (sym (i .is-counter .ensures) ∙ e .before .if2 .taken) (placed i) (e .if3 .left) (c .before .before .put-counter .ensures)
-
-returns-4 : tie.Need-returns-4
-returns-4 c =
-    let i = c .before .before in
-    let a = start i .args in
-    sampled-full (a .buf .now) (a .saved) (good i) (sym (i .is-counter .ensures) ∙ c .before .if2 .left) (omega arith)
-
-cast-put-sampled : tie.Need-cast-put-sampled
-cast-put-sampled c = search needs
-
-cast-put-sampled-2 : tie.Need-cast-put-sampled-2
-cast-put-sampled-2 c = search needs
-
-put-sampled-requires : tie.Need-put-sampled-requires
-put-sampled-requires c κs = search needs
-
-same-length-2 : tie.Need-same-length-2
-same-length-2 c = search needs
-
-returns-5 : tie.Need-returns-5
-returns-5 c =
-    let e = c .before .before .before .before .before .before in
-    let i = e .before .before in
-    let a = start i .args in
-    sampled-wrote (a .buf .now) (a .saved) (good i) (sym (i .is-counter .ensures) ∙ e .before .if2 .left) (placed i) (e .if4 .left) (c .before .before .put-sampled .ensures)
+    let o = c .before .before .before .before .before .before .before .before .before .before .before .before .before in
+    let l = o .before in
+    let s = start l .args .saved in
+    wrote (start l .args .buf .now) s (good l) (omega (arith, l .axis-length .ensures, o .if2 .left))
+    (puts-record s (c .before .before .before .before .before .before .before .before .before .before .put-bytes .ensures)
+    (c .before .before .before .before .before .before .put-axis .ensures)
+    (c .before .before .put-field .ensures))
 
 pub save-spec : {M : Type 1} → statement M
 save-spec =
     tie.close
     (tie.spec
-    is-within-requires
-    returns
-    cast-kind
-    bits-of-requires
-    is-counter-requires
-    returns-2
-    cast-put-counter
-    put-counter-requires
-    same-length
-    returns-3
-    returns-4
-    cast-put-sampled
-    cast-put-sampled-2
-    put-sampled-requires
-    same-length-2
-    returns-5)
+    (λ c κs. search needs) returns (λ c. search needs) (λ c κs. search needs) add-if2 returns-2 (λ c. search needs)
+    (λ c κs. search needs) (λ c κs. search needs) put-field-requires (λ c. search needs) returns-3)

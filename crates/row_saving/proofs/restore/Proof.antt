@@ -8,11 +8,11 @@ use Rattle.axis_sound.proofs.SoundLaws.{setup-held}
 use Rattle.record.specs.declared.answer.Saved.{Saved}
 use Rattle.record.specs.declared.answer.Read.the-variants.{Accepted}
 use Rattle.record.specs.Record.{readAs}
+use Rattle.record.proofs.LimitsLaws.{within-parts}
 use Rattle.record.proofs.RecordLaws.{accepted-within}
 use Rattle.row_calls.specs.declared.answer.Changed.the-variants.{To}
 use Rattle.row_saving.specs.Saving.{restoreRow, restoredBy}
 use Rattle.row_calls.proofs.StatusLaws.{held-position}
-use Rattle.row_saving.proofs.SaveLaws.{within-parts}
 use borrow.Author.Needs.{needs}
 use Rattle.row_saving.proofs.restore.Statement.{statement}
 use Rattle.row_saving.proofs.restore.Tie as tie

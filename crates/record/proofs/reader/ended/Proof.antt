@@ -1,3 +1,4 @@
+-- `ended` meets its contract: the end field, then nothing after it, then the limits, each exit by the checks before it.
 use borrow.Author.Needs.{needs}
 use mathlib.Core.Path.{_≡_, sym, ap, _∙_}
 use mathlib.Core.Bool.{true}
@@ -11,7 +12,8 @@ use mir.Facts.{sfits-toZ}
 use Rattle.integers.proofs.Machine.{back}
 use Rattle.record.specs.declared.answer.Read.the-variants.{Accepted}
 use Rattle.tagged.specs.declared.field.Field.the-variants.{Value}
-use Rattle.record.specs.Record.{endedAt, within, saying, END}
+use Rattle.record.specs.Record.{endedAt, withinLimits, saying}
+use Rattle.record.specs.Tags.{endTag}
 use Rattle.tagged.specs.Field.{fieldAt}
 use Rattle.record.proofs.reader.ended.Statement.{statement}
 use Rattle.record.proofs.reader.ended.Tie as tie
@@ -21,7 +23,7 @@ module _ (c : tie.After-at) where
   start = c .before .before .before .before
 
   -- the end field that was read
-  found : fieldAt (start .args .slice .now) (start .args .at) END 0 ≡ Value (c .at .given .0 .0) (c .at .given .0 .1 .0)
+  found : fieldAt (start .args .slice .now) (start .args .at) endTag 0 ≡ Value (c .at .given .0 .0) (c .at .given .0 .1 .0)
   found = sym (c .before .before .read-field .ensures) ∙ c .at .given .1
 
 -- nothing comes after it
@@ -35,17 +37,9 @@ module _ (c : tie.After-of-bits) where
   placed : toZ w64 (ofZ w64 (c .of-bits .result)) ≡ toZ w64 (st .args .bits)
   placed = rw (c .of-bits .ensures) (back (sfits-toZ {w = w64} (st .fits .bits)))
 
-limits : (c : tie.After-is-within) → within (saying (st (c .before) .args .config) (st (c .before) .args .bits)) ≡ c .is-within .result
+limits : (c : tie.After-is-within) →
+    withinLimits (saying (st (c .before) .args .config) (st (c .before) .args .bits)) ≡ c .is-within .result
 limits c = rw (← (placed (c .before))) (sym (c .is-within .ensures))
-
-read-field-requires : tie.Need-read-field-requires
-read-field-requires c κs = search needs
-
-enum-known-at : tie.Need-enum-known-at
-enum-known-at c = search needs
-
-enum-told : tie.Need-enum-told
-enum-told c = search needs
 
 returns : tie.Need-returns
 unfolding endedAt
@@ -56,12 +50,6 @@ unfolding endedAt
 returns-2 c =
     let a = c .before .before in
     rw (found a, ne-eqb (length (start a .args .slice .now)) (a .at .given .0 .1 .0) (c .if1 .taken))
-
-of-bits-requires : tie.Need-of-bits-requires
-of-bits-requires c κs = search needs
-
-is-within-requires : tie.Need-is-within-requires
-is-within-requires c κs = search needs
 
 returns-3 : tie.Need-returns-3
 unfolding endedAt
@@ -80,12 +68,5 @@ pub ended-spec : {M : Type 1} → statement M
 ended-spec =
     tie.close
     (tie.spec
-    read-field-requires
-    enum-known-at
-    enum-told
-    returns
-    returns-2
-    of-bits-requires
-    is-within-requires
-    returns-3
-    returns-4)
+    (λ c κs. search needs) (λ c. search needs) (λ c. search needs) returns returns-2 (λ c κs. search needs) (λ c κs. search needs)
+    returns-3 returns-4)

@@ -3,15 +3,6 @@ use mathlib.Core.Path.{sym, _∙_}
 use Rattle.record.proofs.reader.test.Statement.{statement}
 use Rattle.record.proofs.reader.test.Tie as tie
 
-read-requires : tie.Need-read-requires
-read-requires c κs = search needs
-
-enum-told : tie.Need-enum-told
-enum-told c = search needs
-
-enum-known-r : tie.Need-enum-known-r
-enum-known-r c = search needs
-
 returns : tie.Need-returns
 returns c = rw (sym (c .before .before .read .ensures) ∙ c .enum-told .given .1)
 
@@ -19,4 +10,7 @@ returns-2 : tie.Need-returns-2
 returns-2 c = rw (sym (c .before .before .before .read .ensures) ∙ c .before .r .given .1)
 
 pub test-spec : {M : Type 1} → statement M
-test-spec = tie.close (tie.spec read-requires enum-told enum-known-r returns returns-2)
+test-spec =
+    tie.close
+    (tie.spec
+    (λ c κs. search needs) (λ c. search needs) (λ c. search needs) returns returns-2)

@@ -24,17 +24,12 @@ module _ (c : tie.After-shared-slice-known Inv-loop μ-loop) where
   small : at-loop .loop .v < 256 ^ 7
   small =
       rw (at-loop .loop .inv .1)
-      (lt-of-lt-of-le (number-below (at-loop .before .args .slice .now) (at-loop .before .args .at) (at-loop .loop .i) bytes) (pow-le-pow-right {n = 256} (omega arith) {j = 7} (omega arith)))
+      (lt-of-lt-of-le (number-below (at-loop .before .args .slice .now) (at-loop .before .args .at) (at-loop .loop .i) bytes)
+      (pow-le-pow-right {n = 256} (omega arith) {j = 7} (omega arith)))
 
 loop-holds : tie.Need-loop-holds Inv-loop μ-loop
 unfolding numberFrom
 loop-holds c = (omega arith, refl)
-
-add-byte : tie.Need-add-byte Inv-loop μ-loop
-add-byte c = omega arith
-
-shared-slice-read-byte : tie.Need-shared-slice-read-byte Inv-loop μ-loop
-shared-slice-read-byte c = omega arith
 
 cast-byte : tie.Need-cast-byte Inv-loop μ-loop
 cast-byte c = omega (arith, bytes c (at-loop c .before .args .at + at-loop c .loop .i))
@@ -45,16 +40,11 @@ mul-v c = omega (arith, small c)
 add-v : tie.Need-add-v Inv-loop μ-loop
 add-v c = omega (arith, small c, bytes c (at-loop c .before .args .at + at-loop c .loop .i))
 
-add-i : tie.Need-add-i Inv-loop μ-loop
-add-i c = omega arith
-
-loop-less : tie.Need-loop-less Inv-loop μ-loop
-loop-less c = omega arith
-
 loop-again : tie.Need-loop-again Inv-loop μ-loop
 loop-again c =
     let l = at-loop c in
-    (omega arith, omega (arith, l .loop .inv .1, number-next (l .before .args .slice .now) (l .before .args .at) (l .loop .i) (omega arith)))
+    let a = l .before .args in
+    (omega arith, omega (arith, l .loop .inv .1, number-next (a .slice .now) (a .at) (l .loop .i) (omega arith)))
 
 returns : tie.Need-returns Inv-loop μ-loop
 returns c =
@@ -65,4 +55,6 @@ returns c =
 pub number-spec : {M : Type 1} → statement M
 number-spec =
     tie.close
-    (tie.spec Inv-loop μ-loop loop-holds add-byte shared-slice-read-byte cast-byte mul-v add-v add-i loop-less loop-again returns)
+    (tie.spec
+    Inv-loop μ-loop loop-holds (λ c. omega arith) (λ c. omega arith) cast-byte mul-v add-v (λ c. omega arith) (λ c. omega arith)
+    loop-again returns)

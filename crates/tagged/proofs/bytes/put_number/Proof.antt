@@ -10,28 +10,14 @@ use Rattle.tagged.proofs.bytes.put_number.Tie as tie
 
 -- what is left to write, written over the present buffer, gives the whole
 abbrev Inv-loop : tie.InvT-loop
-Inv-loop buf₀ at n v rest₀ j₀ buf rest j = (j ≤ n) × (length buf ≡ length buf₀) × (sets buf at (bytesOf j rest) ≡ sets buf₀ at (bytesOf n v))
+Inv-loop buf₀ at n v rest₀ j₀ buf rest j =
+    (j ≤ n) × (length buf ≡ length buf₀) × (sets buf at (bytesOf j rest) ≡ sets buf₀ at (bytesOf n v))
 
 abbrev μ-loop : tie.MeasureT-loop
 μ-loop buf₀ at n v rest₀ j₀ buf rest j = j
 
 loop-holds : tie.Need-loop-holds Inv-loop μ-loop
 loop-holds c = (omega arith, refl, refl)
-
-sub-j : tie.Need-sub-j Inv-loop μ-loop
-sub-j c = omega arith
-
-cast-buf : tie.Need-cast-buf Inv-loop μ-loop
-cast-buf c = omega arith
-
-add-buf : tie.Need-add-buf Inv-loop μ-loop
-add-buf c = omega arith
-
-slice-write-buf : tie.Need-slice-write-buf Inv-loop μ-loop
-slice-write-buf c = omega arith
-
-loop-less : tie.Need-loop-less Inv-loop μ-loop
-loop-less c = omega arith
 
 loop-again : tie.Need-loop-again Inv-loop μ-loop
 loop-again c =
@@ -54,4 +40,8 @@ returns c =
     ap (λ (k : ℕ). sets (l .buf) (c .before .before .args .at) (bytesOf k (l .rest))) e ∙ l .inv .2
 
 pub put-number-spec : {M : Type 1} → statement M
-put-number-spec = tie.close (tie.spec Inv-loop μ-loop loop-holds sub-j cast-buf add-buf slice-write-buf loop-less loop-again same-length returns)
+put-number-spec =
+    tie.close
+    (tie.spec
+    Inv-loop μ-loop loop-holds (λ c. omega arith) (λ c. omega arith) (λ c. omega arith) (λ c. omega arith) (λ c. omega arith) loop-again
+    same-length returns)

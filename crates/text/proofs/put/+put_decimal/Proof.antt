@@ -45,7 +45,8 @@ put-decimal-put-decimal-requires : (t : ℕ) → put-decimal-lts.Need-put-decima
 put-decimal-put-decimal-requires t c κs =
     let a = c .before .before .before .args in
     let p = c .before .before .before .pre in
-    (omega (arith, p .0, c .before .if1 .left), omega (arith, tenth-fits (a .n) (a .at) (length (a .out .now)) (c .before .if1 .left) (p .1)))
+    let l = c .before .if1 .left in
+    (omega (arith, p .0, l), omega (arith, tenth-fits (a .n) (a .at) (length (a .out .now)) l (p .1)))
 
 put-decimal-digit-requires-2 : (t : ℕ) → put-decimal-lts.Need-digit-requires-2 (claims t) (put-decimal-at t) put-decimal.Post
 put-decimal-digit-requires-2 t c κs = omega arith

@@ -9,13 +9,14 @@ put-bytes-requires : tie.Need-put-bytes-requires
 put-bytes-requires c κs = let a = c .before .before .before .args in omega (arith, line-length (a .label .now) (decimal (a .n)))
 
 put-decimal-requires : tie.Need-put-decimal-requires
-put-decimal-requires c κs = let a = c .before .before .before .before .before .before .before .args in omega (arith, line-length (a .label .now) (decimal (a .n)))
+put-decimal-requires c κs =
+    let a = c .before .before .before .before .before .before .before .args in
+    omega (arith, line-length (a .label .now) (decimal (a .n)))
 
 put-byte-requires : tie.Need-put-byte-requires
-put-byte-requires c κs = let a = c .before .before .before .before .before .before .before .before .before .before .before .args in omega (arith, line-length (a .label .now) (decimal (a .n)))
-
-same-length : tie.Need-same-length
-same-length c = search needs
+put-byte-requires c κs =
+    let a = c .before .before .before .before .before .before .before .before .before .before .before .args in
+    omega (arith, line-length (a .label .now) (decimal (a .n)))
 
 returns : tie.Need-returns
 returns c =
@@ -26,4 +27,5 @@ returns c =
 pub put-line-spec : {M : Type 1} → statement M
 put-line-spec =
     tie.close
-    (tie.spec put-bytes-requires put-decimal-requires put-byte-requires same-length returns)
+    (tie.spec
+    put-bytes-requires put-decimal-requires put-byte-requires (λ c. search needs) returns)

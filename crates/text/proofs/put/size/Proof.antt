@@ -7,7 +7,8 @@ use mir.Syntax.{w64}
 use mir.Val.{toZ, ofZ}
 use Rattle.integers.proofs.Balance.{ltZ-false}
 use Rattle.integers.proofs.Machine.{back, to-u64}
-use Rattle.text.proofs.TextLaws.{short-above, short-fits, size-is, size-fits}
+use Rattle.tagged.proofs.TwosLaws.{short-above, short-fits}
+use Rattle.text.proofs.TextLaws.{size-is, size-fits}
 use borrow.Author.Needs.{needs}
 use Rattle.text.proofs.put.size.Statement.{statement}
 use Rattle.text.proofs.put.size.Tie as tie
@@ -36,8 +37,8 @@ cast-result-2 c =
     let f = c .before .fits .z in
     to-u64 _ f (omega (arith, ltZ-false (c .before .args .z) (pos 0) (rw (back f) at (c .if1 .left))))
 
-returns-2 : tie.Need-returns-2
-returns-2 c = search needs
-
 pub size-spec : {M : Type 1} → statement M
-size-spec = tie.close (tie.spec sub-result cast-result add-result returns cast-result-2 returns-2)
+size-spec =
+    tie.close
+    (tie.spec
+    sub-result cast-result add-result returns cast-result-2 (λ c. search needs))

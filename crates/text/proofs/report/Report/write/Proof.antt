@@ -29,22 +29,14 @@ module _ (s : tie.Start) where
 room : (c : tie.After-put-line-arg2) → length (c .before .before .args .out .now) ≡ 73
 room c = search needs
 
-slice-aggregate-put-line : tie.Need-slice-aggregate-put-line
-slice-aggregate-put-line c = search needs
-
 put-line-requires : tie.Need-put-line-requires
 put-line-requires c κs = omega (arith, first (c .before .before), room c)
 
 put-position-requires : tie.Need-put-position-requires
 put-position-requires c κs =
     let s = c .before .before .before .before .before in
-    rw (back (held s)) (omega (arith, first s, second s, room (c .before .before .before), c .before .before .put-line .kept .0, c .before .before .put-line .ensures .behind))
-
-slice-aggregate-put-line-2 : tie.Need-slice-aggregate-put-line-2
-slice-aggregate-put-line-2 c = search needs
-
-cast-put-line : tie.Need-cast-put-line
-cast-put-line c = search needs
+    let p = c .before .before .put-line in
+    rw (back (held s)) (omega (arith, first s, second s, room (c .before .before .before), p .kept .0, p .ensures .behind))
 
 put-line-requires-2 : tie.Need-put-line-requires-2
 put-line-requires-2 c κs =
@@ -52,7 +44,8 @@ put-line-requires-2 c κs =
     let p = c .before .before .before .before .before .before .put-line in
     let q = c .before .before .before .put-position in
     let e = rw (back (held s)) at (q .ensures .behind) in
-    omega (arith, first s, second s, third s, room (c .before .before .before .before .before .before .before), p .kept .0, p .ensures .behind, q .kept .0, e)
+    let r = room (c .before .before .before .before .before .before .before) in
+    omega (arith, first s, second s, third s, r, p .kept .0, p .ensures .behind, q .kept .0, e)
 
 returns : tie.Need-returns
 returns c =
@@ -71,10 +64,4 @@ pub write-spec : {M : Type 1} → statement M
 write-spec =
     tie.close
     (tie.spec
-    slice-aggregate-put-line
-    put-line-requires
-    put-position-requires
-    slice-aggregate-put-line-2
-    cast-put-line
-    put-line-requires-2
-    returns)
+    (λ c. search needs) put-line-requires put-position-requires (λ c. search needs) (λ c. search needs) put-line-requires-2 returns)
