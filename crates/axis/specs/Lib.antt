@@ -1,3 +1,4 @@
 pub mod Kind
 pub mod Config
+pub mod Flags
 pub mod Row
