@@ -81,23 +81,21 @@ waiting-held slim w armed = record {
   runs = refl;
 }
 
--- Word 1, unpacked and packed, where the bits that have no name are 0.
-word1-again : (r : Row) → r .w1 < 2 ^ 64 → fieldOf 31 1 (r .w1) ≡ 0 → fieldOf 50 14 (r .w1) ≡ 0 → word1Of (axisOf r) ≡ r .w1
-word1-again r h low high =
+-- The fields of a row's axis are those of its word 1, where the bits that have no name are 0.
+pub fields-again : (r : Row) → fieldOf 31 1 (r .w1) ≡ 0 → fieldOf 50 14 (r .w1) ≡ 0 → fieldsOf (axisOf r) ≡ split 0 layout (r .w1)
+fields-again r low high =
     let w = r .w1 in
-    (λ i. join 0 layout
-    (fieldOf 0 4 w ∷ fieldOf 4 4 w ∷ fieldOf 8 6 w
+    λ i. fieldOf 0 4 w ∷ fieldOf 4 4 w ∷ fieldOf 8 6 w
     ∷ bit-flag 14 w i ∷ bit-flag 15 w i ∷ bit-flag 16 w i ∷ bit-flag 17 w i ∷ bit-flag 18 w i
     ∷ bit-flag 19 w i ∷ bit-flag 20 w i ∷ bit-flag 21 w i
     ∷ fieldOf 22 3 w ∷ fieldOf 25 3 w ∷ fieldOf 28 3 w
-    ∷ sym low i ∷ fieldOf 32 16 w ∷ fieldOf 48 2 w ∷ sym high i ∷ []))
-    ∙ join-split layout w h
+    ∷ sym low i ∷ fieldOf 32 16 w ∷ fieldOf 48 2 w ∷ sym high i ∷ []
 
 -- A row whose bits without a name are 0 is what its axis packs to.
 pub row-again : (r : Row) → Words r → fieldOf 31 1 (r .w1) ≡ 0 → fieldOf 50 14 (r .w1) ≡ 0 → rowOf (axisOf r) ≡ r
 row-again r h low high = λ i. record {
   w0 = r .w0;
-  w1 = word1-again r (h .w1) low high i;
+  w1 = (ap (join 0 layout) (fields-again r low high) ∙ join-split layout (r .w1) (h .w1)) i;
   w2 = join-split (32 ∷ 32 ∷ []) (r .w2) (h .w2) i;
   w3 = r .w3;
 }
@@ -161,3 +159,7 @@ comes-back a h =
       doubles = back a n 15;
       pace = record { direction = back a n 16; age = λ i. getD (two i) 0 0; period = λ i. getD (two i) 1 0 };
     })
+
+-- Two axes that a row can hold are one where they have one row.
+pub one-row : {a b : Axis} → Held a → Held b → rowOf a ≡ rowOf b → a ≡ b
+one-row {a} {b} h k e = sym (comes-back a h) ∙ ap axisOf e ∙ comes-back b k
