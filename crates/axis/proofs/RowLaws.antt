@@ -161,5 +161,5 @@ comes-back a h =
     })
 
 -- Two axes that a row can hold are one where they have one row.
-pub one-row : {a b : Axis} → Held a → Held b → rowOf a ≡ rowOf b → a ≡ b
-one-row {a} {b} h k e = sym (comes-back a h) ∙ ap axisOf e ∙ comes-back b k
+pub same-row : {a b : Axis} → Held a → Held b → rowOf a ≡ rowOf b → a ≡ b
+same-row {a} {b} h k e = sym (comes-back a h) ∙ ap axisOf e ∙ comes-back b k

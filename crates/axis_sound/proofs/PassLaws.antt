@@ -8,7 +8,7 @@ use lib.Dec.{eqb, leb, ltb}
 use lib.ListN.{getD, drop}
 use borrow.Author.Tests.{eqb-true, eqb-false, leb-true, ltb-true, not-true, not-false, eq-eqb, ne-eqb, le-leb, lt-ltb}
 use Rattle.position.specs.Position.{isWord, Word}
-use Rattle.position.proofs.PositionLaws.{is-word, word-is}
+use Rattle.position.proofs.PositionLaws.{word-gives, word-passes}
 use Rattle.fields.specs.Field.{fieldOf, flagOf, bitOf}
 use Rattle.fields.specs.Layout.{join}
 use Rattle.fields.proofs.LayoutLaws.{zero-split, split-zero}
@@ -17,7 +17,7 @@ use Rattle.axis.specs.declared.row.Pace.{Pace}
 use Rattle.axis.specs.declared.row.Row.{Row}
 use Rattle.axis.specs.Config.{sampledConfig, SampledSetting}
 use Rattle.axis.specs.Row.{layout, axisOf, fieldsOf, word1Of, word2Of, waiting, Waits, Held}
-use Rattle.axis.proofs.RowLaws.{row-held, waiting-held, fields-again, one-row}
+use Rattle.axis.proofs.RowLaws.{row-held, waiting-held, fields-again, same-row}
 use Rattle.axis.proofs.TestLaws.{both, otherwise, either, same-test}
 use Rattle.axis_sound.specs.Sound.{isPlain, isWaiting, isShort, isPaced, isConsistent, isSampled, lowRow, SoundPace, SampledAxis}
 
@@ -35,7 +35,7 @@ plain r e =
     let h2 = both _ (eqb (fieldOf 50 14 (r .w1)) 0) (h3 .0) in
     let h1 = both (isWord (r .w0)) (eqb (fieldOf 31 1 (r .w1)) 0) (h2 .0) in
     record {
-      word = is-word (r .w0) (h1 .0);
+      word = word-gives (r .w0) (h1 .0);
       low = eqb-true (fieldOf 31 1 (r .w1)) 0 (h1 .1);
       high = eqb-true (fieldOf 50 14 (r .w1)) 0 (h2 .1);
       turn = ltb-true (r .w3) (2 ^ 32) (h3 .1);
@@ -45,7 +45,7 @@ plain r e =
 pub plain-from : (r : Row) → Plain r → isPlain r ≡ true
 plain-from r p =
     rw (
-      word-is (r .w0) (p .word),
+      word-passes (r .w0) (p .word),
       eq-eqb (fieldOf 31 1 (r .w1)) 0 (p .low),
       eq-eqb (fieldOf 50 14 (r .w1)) 0 (p .high),
       lt-ltb (r .w3) (2 ^ 32) (p .turn),
@@ -62,7 +62,7 @@ pub waiting-gives : {a : Axis} → Held a → isWaiting a ≡ true → Waits a
 waiting-gives {a} h e =
     let b = waiting (a .config) (a .word) (a .flags .armed) in
     let k = both (eqb (word1Of a) (word1Of b)) (eqb (word2Of a) (word2Of b)) e in
-    one-row h (waiting-held (h .narrow .config) (a .word) (a .flags .armed)) (λ i. record {
+    same-row h (waiting-held (h .narrow .config) (a .word) (a .flags .armed)) (λ i. record {
       w0 = a .word;
       w1 = eqb-true (word1Of a) (word1Of b) (k .0) i;
       w2 = eqb-true (word2Of a) (word2Of b) (k .1) i;
@@ -75,13 +75,13 @@ waiting-from {a} h =
     let b = waiting (a .config) (a .word) (a .flags .armed) in
     λ i. eq-eqb (word1Of a) (word1Of b) (ap word1Of h) i && eq-eqb (word2Of a) (word2Of b) (ap word2Of h) i
 
--- The fields of word 1 from bit 16 up.
-abbrev past : List ℕ
-past = drop 5 layout
+-- The fields of word 1 from HOMED up.
+abbrev fromHomed : List ℕ
+fromHomed = drop 5 layout
 
 -- In a plain row, an axis that waits is 0 in bits 16 to 63 of word 1.
 waiting-bare : (r : Row) → Plain r → Waits (axisOf r) → fieldOf 16 48 (r .w1) ≡ 0
-waiting-bare r p h = split-zero 16 past (r .w1) (ap (drop 5) (sym (fields-again r (p .low) (p .high)) ∙ ap fieldsOf h))
+waiting-bare r p h = split-zero 16 fromHomed (r .w1) (ap (drop 5) (sym (fields-again r (p .low) (p .high)) ∙ ap fieldsOf h))
 
 -- An axis waits that is not primed and is 0 there, and in age and period.
 pub bare-waits : (r : Row) → Plain r → flagOf 14 (r .w1) ≡ false → fieldOf 16 48 (r .w1) ≡ 0 →
@@ -89,8 +89,8 @@ pub bare-waits : (r : Row) → Plain r → flagOf 14 (r .w1) ≡ false → field
 bare-waits r p primed z age period =
     let a = axisOf r in
     let h = row-held r in
-    let tail : drop 5 (fieldsOf a) ≡ map (λ (k : ℕ). 0) past = ap (drop 5) (fields-again r (p .low) (p .high)) ∙ zero-split 16 past (r .w1) z in
-    one-row h (waiting-held (h .narrow .config) (a .word) (a .flags .armed)) (λ i. record {
+    let tail : drop 5 (fieldsOf a) ≡ map (λ (k : ℕ). 0) fromHomed = ap (drop 5) (fields-again r (p .low) (p .high)) ∙ zero-split 16 fromHomed (r .w1) z in
+    same-row h (waiting-held (h .narrow .config) (a .word) (a .flags .armed)) (λ i. record {
       w0 = r .w0;
       w1 = join 0 layout (a .config .kind ∷ a .config .depth ∷ a .config .width ∷ bitOf (primed i) ∷ bitOf (a .flags .armed) ∷ tail i);
       w2 = join 0 (32 ∷ 32 ∷ []) (age i ∷ period i ∷ []);

@@ -51,13 +51,13 @@ bal-word (pos n) h = omega arith
 bal-word (negsuc n) h = omega (arith, range-is (negsuc n) h)
 
 -- a word holds a position exactly where it passes the test
-pub is-word : (w : ℕ) → isWord w ≡ true → Word w
-is-word w e =
+pub word-gives : (w : ℕ) → isWord w ≡ true → Word w
+word-gives w e =
     let h = and-eq-true-iff (leb 1 w) (leb w (2 ^ 63 - 1)) .0 e in
     record { above = leb-true 1 w (h .0); below = omega (arith, leb-true w (2 ^ 63 - 1) (h .1)) }
 
-pub word-is : (w : ℕ) → Word w → isWord w ≡ true
-word-is w h = rw (le-leb 1 w (h .above), le-leb w (2 ^ 63 - 1) (omega arith))
+pub word-passes : (w : ℕ) → Word w → isWord w ≡ true
+word-passes w h = rw (le-leb 1 w (h .above), le-leb w (2 ^ 63 - 1) (omega arith))
 
 -- the word of a position holds one
 pub word-holds : (p : ℤ) → inRange p ≡ true → Word (wordOf p)

@@ -127,7 +127,7 @@ at-high b h = rw (range-no (positionOf b) (omega (arith, bal-position b)))
 
 pub at-in : (b : ℕ) → 0 < b → b < 2 ^ 63 → Number (positionOf b) ≡ within (positionOf b)
 unfolding within
-at-in b h k = rw (position-in-range b h k)
+at-in b h k = rw (position-in-range b (record { above = h; below = k }))
 
 -- the whole call, by the word
 pub by-word : (w : ℕ) (W : ℤ) (r : ℕ) → goodWidth w ≡ true → inRange W ≡ true → r < 2 ^ w →

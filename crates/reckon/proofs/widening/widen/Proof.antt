@@ -6,7 +6,7 @@ use Prim.Native.Nat.{ℕ, _^_, _≤_, _<_}
 use lib.Pow.{pow-pos, pow-mono}
 use Rattle.integers.proofs.Machine.{back}
 use Rattle.position.specs.Position.{inRange, wordOf}
-use Rattle.position.proofs.PositionLaws.{word-high}
+use Rattle.position.proofs.PositionLaws.{word-holds}
 use Rattle.reckon.specs.Widening.{goodWidth}
 use Rattle.reckon.proofs.WideningLaws.{bad-width, bad-position, bad-reading, width-is, ahead-small, by-word}
 use Rattle.reckon.proofs.widening.widen.Statement.{statement}
@@ -58,7 +58,7 @@ ahead-requires c κs = (c .before .if3 .left, few (c .before))
 
 nearest-requires : tie.Need-nearest-requires
 nearest-requires c κs =
-    (rw (c .ahead .ensures) (ahead-small _ _ _ (some (c .before .before))), few (c .before .before), rw (word (c .before)) (word-high _ (ok (c .before .before .before .before))))
+    (rw (c .ahead .ensures) (ahead-small _ _ _ (some (c .before .before))), few (c .before .before), rw (word (c .before)) (word-holds _ (ok (c .before .before .before .before)) .below))
 
 returns-4 : tie.Need-returns-4
 returns-4 c =
