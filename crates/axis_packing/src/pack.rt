@@ -15,7 +15,11 @@ fn config_word(c: Config) -> u64
     requires { ⌜ Slim c ⌝ }
     ensures { λ w. ⌜ w ≡ c .kind + c .depth * 2 ^ 4 + c .width * 2 ^ 8 ⌝ }
 {
-    fields::put(fields::put(c.kind as u64, 4, c.depth as u64), 8, c.width as u64)
+    fields::put(
+        fields::put(c.kind as u64, 4, c.depth as u64),
+        8,
+        c.width as u64,
+    )
 }
 
 // The five flags, from bit 0 on.

@@ -174,7 +174,7 @@ pace-passes p s =
       ne-eqb (p .direction) 3 (λ e. let no : ⊥ = omega (arith, s .direction) in no),
       le-leb (p .period) (2 ^ 32 - 2) (s .period),
       either (not (eqb (p .direction) 0)) (eqb (p .period) 0)
-      (λ z. eq-eqb (p .period) 0 (s .resting (eqb-true (p .direction) 0 (not-false (eqb (p .direction) 0) z)))),
+          (λ z. eq-eqb (p .period) 0 (s .resting (eqb-true (p .direction) 0 (not-false (eqb (p .direction) 0) z)))),
     )
 
 -- An axis that passes the tests of a sampled one is within its limits.
