@@ -8,7 +8,7 @@ use lib.ListN.{getD}
 use lib.IntN.{ℤ, pos}
 use mir.Syntax.{w8}
 use mir.Val.{ofZ, toZ}
-use Rattle.axis_decode.specs.Decode.{mark}
+use Rattle.axis_decode.specs.Decode.{entryIn, mark}
 use Rattle.axis_decode.specs.declared.Move.{Move}
 use Rattle.axis_decode.specs.declared.Move.the-variants.{Still, Forward, Back, Double}
 
@@ -21,6 +21,14 @@ read (Forward ∷ ms) zero = refl
 read (Back ∷ ms) zero = refl
 read (Double ∷ ms) zero = refl
 read (m ∷ ms) (suc at) = read ms at
+
+-- So are the lines of a table, read at two places.
+pub read-in : (rows : List (List Move)) (old new : ℕ) →
+    toZ w8 (ofZ w8 (getD (getD (map (map mark) rows) old []) new (pos 0))) ≡ mark (entryIn rows old new)
+unfolding mark
+read-in [] old new = refl
+read-in (ms ∷ rows) zero new = read ms new
+read-in (ms ∷ rows) (suc old) new = read-in rows old new
 
 -- The entry that the code tells from the byte of a mark.
 abbrev pub told : ℕ → Move

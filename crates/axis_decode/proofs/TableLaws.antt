@@ -1,12 +1,11 @@
 -- The laws of the three transition tables: document 01, "A port sample", Decode. Their rule is one test, computed at every pair of codes.
-use Prim.Native.Nat.{ℕ, suc, _+_, _*_, _<_}
+use Prim.Native.Nat.{ℕ, suc, _<_}
 use mathlib.Core.Path.{_≡_, refl, sym, ap, _∙_}
 use mathlib.Core.Bool.{Bool, true, false, cond, not, _&&_, _||_, Bool·beq, true≢false}
 use mathlib.Core.List.{List}
 use native.Mathlib.Omega.{arith}
 use borrow.Author.Tests.{eqb-true}
 use lib.Dec.{T, eqb, eqb→eq, eqb-refl}
-use lib.ListN.{getD}
 use lib.IntN.{ℤ, pos, negsuc, _+ℤ_, natAbs}
 use mir.Syntax.{w8}
 use mir.Val.{ofZ}
@@ -51,13 +50,13 @@ each false b c d e t = absurd t
 
 -- ---- the rule of a table at one pair of codes, in five parts
 
-module _ (ms : List Move) (i j : ℕ) where
+module _ (rows : List (List Move)) (i j : ℕ) where
   -- The entries from i to j, and back.
   there : Move
-  there = getD ms (4 * i + j) Still
+  there = entryIn rows i j
 
   back : Move
-  back = getD ms (4 * j + i) Still
+  back = entryIn rows j i
 
   -- The two cancel.
   cancels : Bool
@@ -99,7 +98,7 @@ module _ (kind i j : ℕ) (a : i < 4) (b : j < 4) where
       (at 4 (λ i. every 4 (λ j. fair (tableOf kind) i j)) (fair-tables (eqb kind X4) (eqb kind X2)) i a)
       j b
 
-  abbrev t : List Move
+  abbrev t : List (List Move)
   t = tableOf kind
 
   parts : T (cancels t i j) × T (doubles t i j) × T (ahead t i j) × T (behind t i j) × T (stays t i j)
@@ -108,27 +107,27 @@ module _ (kind i j : ℕ) (a : i < 4) (b : j < 4) where
 
   -- HEADLINE: the entries there and back cancel, so chatter at an edge never climbs.
   pub there-and-back : worth (entry kind i j) +ℤ worth (entry kind j i) ≡ pos 0
-  unfolding cancels there back entryIn
+  unfolding cancels there back entry
   there-and-back = zero-is (worth (entry kind i j) +ℤ worth (entry kind j i)) (parts .0)
 
   -- HEADLINE: E stands exactly between the codes that differ in both lines.
   pub double-opposite : isE (entry kind i j) ≡ opposite i j
-  unfolding doubles there entryIn
+  unfolding doubles there entry
   double-opposite = beq-is (isE (entry kind i j)) (opposite i j) (parts .1)
 
   -- HEADLINE: + stands only from a code to the next one forward.
   pub forward-next : entry kind i j ≡ Forward → j ≡ nextCode i
-  unfolding ahead there entryIn same mark
+  unfolding ahead there entry same mark
   forward-next e = eqb→eq j (nextCode i) (implied (same (entry kind i j) Forward) (eqb j (nextCode i)) (parts .2) (rw e tt))
 
   -- HEADLINE: - stands only from a code to the one before it.
   pub back-next : entry kind i j ≡ Back → i ≡ nextCode j
-  unfolding behind there entryIn same mark
+  unfolding behind there entry same mark
   back-next e = eqb→eq i (nextCode j) (implied (same (entry kind i j) Back) (eqb i (nextCode j)) (parts .3) (rw e tt))
 
   -- Equal codes are no step.
   pub still-same : i ≡ j → entry kind i j ≡ Still
-  unfolding stays there entryIn
+  unfolding stays there entry
   still-same e = same-is (entry kind i j) Still (implied (eqb i j) (same (entry kind i j) Still) (parts .4) (rw e (eqb-refl j)))
 
 -- HEADLINE: E stands in every mode where x4 has it.
@@ -138,7 +137,7 @@ double-as-x4 kind i j a b = double-opposite kind i j a b ∙ sym (double-opposit
 -- HEADLINE: a whole cycle forward counts the number of the mode.
 pub cycle-forward : (kind : ℕ) → sampledKind kind ≡ true →
     worth (entry kind 0 1) +ℤ worth (entry kind 1 3) +ℤ worth (entry kind 3 2) +ℤ worth (entry kind 2 0) ≡ pos kind
-unfolding worth entryIn tableOf x1 x2 x4
+unfolding worth entry tableOf x1 x2 x4
 cycle-forward kind h = go (test (eqb kind X1)) (test (eqb kind X2)) (test (eqb kind X4))
   where
     go : Tested (eqb kind X1) → Tested (eqb kind X2) → Tested (eqb kind X4) →

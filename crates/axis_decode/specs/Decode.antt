@@ -7,9 +7,6 @@ use lib.ListN.{getD}
 use lib.IntN.{ℤ, pos, negsuc}
 use Rattle.fields.specs.Field.{bitOf}
 use Rattle.axis.specs.Kind.{X2, X4}
-use Rattle.axis.specs.declared.row.Axis.{Axis}
-use Rattle.axis_filter.specs.Lines.{Wire, A, B, line}
-use Rattle.axis_filter.specs.declared.Line.{Line}
 use Rattle.axis_decode.specs.declared.Move.{Move}
 use Rattle.axis_decode.specs.declared.Move.the-variants.{Still, Forward, Back, Double}
 
@@ -30,41 +27,41 @@ M = Back
 abbrev E : Move
 E = Double
 
--- The sixteen entries of x4: a line for each old code 0, 1, 2, 3, and in it the new codes 0, 1, 2, 3.
-unfoldable pub x4 : List Move
+-- The entries of x4: a line for each old code 0, 1, 2, 3, and in it the new codes 0, 1, 2, 3.
+unfoldable pub x4 : List (List Move)
 x4 =
-    O ∷ P ∷ M ∷ E ∷
-    M ∷ O ∷ E ∷ P ∷
-    P ∷ E ∷ O ∷ M ∷
-    E ∷ M ∷ P ∷ O ∷ []
+    (O ∷ P ∷ M ∷ E ∷ []) ∷
+    (M ∷ O ∷ E ∷ P ∷ []) ∷
+    (P ∷ E ∷ O ∷ M ∷ []) ∷
+    (E ∷ M ∷ P ∷ O ∷ []) ∷ []
 
--- The sixteen entries of x2.
-unfoldable pub x2 : List Move
+-- The entries of x2.
+unfoldable pub x2 : List (List Move)
 x2 =
-    O ∷ P ∷ O ∷ E ∷
-    M ∷ O ∷ E ∷ O ∷
-    O ∷ E ∷ O ∷ M ∷
-    E ∷ O ∷ P ∷ O ∷ []
+    (O ∷ P ∷ O ∷ E ∷ []) ∷
+    (M ∷ O ∷ E ∷ O ∷ []) ∷
+    (O ∷ E ∷ O ∷ M ∷ []) ∷
+    (E ∷ O ∷ P ∷ O ∷ []) ∷ []
 
--- The sixteen entries of x1.
-unfoldable pub x1 : List Move
+-- The entries of x1.
+unfoldable pub x1 : List (List Move)
 x1 =
-    O ∷ P ∷ O ∷ E ∷
-    M ∷ O ∷ E ∷ O ∷
-    O ∷ E ∷ O ∷ O ∷
-    E ∷ O ∷ O ∷ O ∷ []
+    (O ∷ P ∷ O ∷ E ∷ []) ∷
+    (M ∷ O ∷ E ∷ O ∷ []) ∷
+    (O ∷ E ∷ O ∷ O ∷ []) ∷
+    (E ∷ O ∷ O ∷ O ∷ []) ∷ []
 
 -- The table of a sampled kind.
-unfoldable pub tableOf : ℕ → List Move
+unfoldable pub tableOf : ℕ → List (List Move)
 tableOf kind = cond (eqb kind X4) x4 (cond (eqb kind X2) x2 x1)
 
--- The entry at a place of a kind's table.
-unfoldable pub entryIn : ℕ → ℕ → Move
-entryIn kind at = getD (tableOf kind) at O
+-- The entry of a table from an old code to a new one.
+abbrev pub entryIn : List (List Move) → ℕ → ℕ → Move
+entryIn rows old new = getD (getD rows old []) new O
 
--- The entry of a step from an old code to a new one.
-abbrev pub entry : ℕ → ℕ → ℕ → Move
-entry kind old new = entryIn kind (4 * old + new)
+-- The entry of a kind's step from an old code to a new one.
+unfoldable pub entry : ℕ → ℕ → ℕ → Move
+entry kind old new = entryIn (tableOf kind) old new
 
 -- The code after a code, going forward: 0, 1, 3, 2, 0.
 unfoldable pub nextCode : ℕ → ℕ
@@ -94,7 +91,3 @@ mark Still = pos 0
 mark Forward = pos 1
 mark Back = negsuc 0
 mark Double = pos 2
-
--- The entry of an axis whose filtered lines become n.
-unfoldable pub moveTo : Axis → (Wire → Line) → Move
-moveTo x n = entry (x .kind) (code (line x A .level) (line x B .level)) (code (n A .level) (n B .level))

@@ -1,11 +1,8 @@
 // The three transition tables, old code by new code.
 ghost use mathlib.Core.Path.{_≡_};
 ghost use Prim.Native.Nat.{_<_};
-ghost use Rattle.axis_filter.specs.Lines.{three};
-ghost use Rattle.axis_decode.specs.Decode.{code, entryIn, mark, isE, moveTo};
+ghost use Rattle.axis_decode.specs.Decode.{code, entry, mark, isE};
 use axis::kind::Kind;
-use axis::row::Axis;
-use axis_filter::Lines;
 
 // An entry of a transition table.
 pub enum Move {
@@ -15,40 +12,55 @@ pub enum Move {
     Double,
 }
 
-// Four entries for each old code, by new code; 2 marks a double step.
-const X4: [i8; 16] = [0, 1, -1, 2, -1, 0, 2, 1, 1, 2, 0, -1, 2, -1, 1, 0];
+// A line for each old code, and in it the new codes 0, 1, 2, 3; 2 marks a double step.
+const X4: [[i8; 4]; 4] = [
+    [0, 1, -1, 2], // from 0
+    [-1, 0, 2, 1], // from 1
+    [1, 2, 0, -1], // from 2
+    [2, -1, 1, 0], // from 3
+];
 
-const X2: [i8; 16] = [0, 1, 0, 2, -1, 0, 2, 0, 0, 2, 0, -1, 2, 0, 1, 0];
+const X2: [[i8; 4]; 4] = [
+    [0, 1, 0, 2], // from 0
+    [-1, 0, 2, 0], // from 1
+    [0, 2, 0, -1], // from 2
+    [2, 0, 1, 0], // from 3
+];
 
-const X1: [i8; 16] = [0, 1, 0, 2, -1, 0, 2, 0, 0, 2, 0, 0, 2, 0, 0, 0];
+const X1: [[i8; 4]; 4] = [
+    [0, 1, 0, 2], // from 0
+    [-1, 0, 2, 0], // from 1
+    [0, 2, 0, 0], // from 2
+    [2, 0, 0, 0], // from 3
+];
 
 // The code of two levels.
-fn code_of(a: bool, b: bool) -> u64
+fn code_of(a: bool, b: bool) -> usize
     ensures { λ r. ⌜ (r ≡ code a b) × (r < 4) ⌝ }
 {
-    fields::bit(a) + 2 * fields::bit(b)
+    (fields::bit(a) + 2 * fields::bit(b)) as usize
 }
 
-// What a kind's table has at a place.
-fn mark_at(kind: u8, at: usize) -> i8
-    requires { ⌜ at < 16 ⌝ }
-    ensures { λ r. ⌜ r ≡ mark (entryIn kind at) ⌝ }
+// What a kind's table has from an old code to a new one.
+fn mark_at(kind: u8, old: usize, new: usize) -> i8
+    requires { ⌜ (old < 4) × (new < 4) ⌝ }
+    ensures { λ r. ⌜ r ≡ mark (entry kind old new) ⌝ }
 {
     if kind == Kind::X4 {
-        return X4[at];
+        return X4[old][new];
     }
     if kind == Kind::X2 {
-        return X2[at];
+        return X2[old][new];
     }
-    X1[at]
+    X1[old][new]
 }
 
-// The entry at a place of a kind's table.
-fn entry_at(kind: u8, at: usize) -> Move
-    requires { ⌜ at < 16 ⌝ }
-    ensures { λ r. ⌜ r ≡ entryIn kind at ⌝ }
+// The entry of a kind's table from an old code to a new one.
+fn entry_at(kind: u8, old: usize, new: usize) -> Move
+    requires { ⌜ (old < 4) × (new < 4) ⌝ }
+    ensures { λ r. ⌜ r ≡ entry kind old new ⌝ }
 {
-    let e = mark_at(kind, at);
+    let e = mark_at(kind, old, new);
     if e == 0 {
         return Move::Still;
     }
@@ -61,17 +73,11 @@ fn entry_at(kind: u8, at: usize) -> Move
     Move::Back
 }
 
-// The entry of an axis whose lines become n.
-pub fn move_to(x: Axis, n: Lines) -> Move
-    ensures { λ r. ⌜ r ≡ moveTo x (three n) ⌝ }
+// The entry of A and B, from their old levels to the new ones.
+pub fn move_between(kind: u8, a0: bool, b0: bool, a1: bool, b1: bool) -> Move
+    ensures { λ r. ⌜ r ≡ entry kind (code a0 b0) (code a1 b1) ⌝ }
 {
-    let levels = x.levels;
-    let a = n.a;
-    let b = n.b;
-    let old = code_of(levels[0], levels[1]);
-    let new = code_of(a.level, b.level);
-    let at = (4 * old + new) as usize;
-    entry_at(x.kind, at)
+    entry_at(kind, code_of(a0, b0), code_of(a1, b1))
 }
 
 // Whether an entry is a double step.

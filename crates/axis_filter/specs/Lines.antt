@@ -1,9 +1,7 @@
--- The three lines of an axis and the raw levels of a sample: document 01, "A port sample".
+-- The three lines and the raw levels of a sample: document 01, "A port sample".
 use Prim.Native.Nat.{ℕ}
-use mathlib.Core.Bool.{Bool, false}
-use lib.ListN.{getD}
+use mathlib.Core.Bool.{Bool}
 use Rattle.fields.specs.Field.{flagOf}
-use Rattle.axis.specs.declared.row.Axis.{Axis}
 use Rattle.axis_filter.specs.declared.Line.{Line}
 use Rattle.axis_filter.specs.declared.Lines.{Lines}
 use Rattle.axis_filter.specs.declared.Raw.{Raw}
@@ -12,12 +10,6 @@ use Rattle.axis_filter.specs.declared.Raw.{Raw}
 pub data Wire : Type 0 where
   A B Z : Wire
   deriving Discrete as Wire-discrete
-
--- The place of a line in an axis's levels and runs.
-unfoldable pub placeOf : Wire → ℕ
-placeOf A = 0
-placeOf B = 1
-placeOf Z = 2
 
 -- The raw levels of a sample's four bits; the fourth is not read.
 abbrev pub rawOf : ℕ → Raw
@@ -28,10 +20,6 @@ unfoldable pub levelOf : Raw → Wire → Bool
 levelOf s A = s .a
 levelOf s B = s .b
 levelOf s Z = s .z
-
--- A line as an axis has it.
-unfoldable pub line : Axis → Wire → Line
-line x w = record { level = getD (x .levels) (placeOf w) false; run = getD (x .runs) (placeOf w) 0 }
 
 -- Three lines, by name.
 unfoldable pub three : Lines → Wire → Line

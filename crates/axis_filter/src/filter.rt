@@ -1,14 +1,13 @@
 // The filter: one depth, and a run for each of the three lines.
 ghost use mathlib.Core.Path.{_≡_};
 ghost use Prim.Native.Nat.{_<_};
-ghost use Rattle.axis_filter.specs.Filter.{filterLine, linesBy, Short};
+ghost use Rattle.axis_filter.specs.Filter.{filterLine, filterLines, Short};
 use crate::Line;
 use crate::Lines;
 use crate::Raw;
-use axis::row::Axis;
 
-// One line after a sample.
-fn filter_line(l: Line, raw: bool, depth: u8) -> Line
+// A line after a sample.
+fn filter_line(depth: u8, l: Line, raw: bool) -> Line
     requires { ⌜ l .run < depth ⌝ }
     ensures { λ r. ⌜ r ≡ filterLine depth l raw ⌝ }
 {
@@ -26,28 +25,14 @@ fn filter_line(l: Line, raw: bool, depth: u8) -> Line
     Line { level, run }
 }
 
-// The three lines of an axis after a sample.
-pub fn filter(x: Axis, s: Raw) -> Lines
-    requires { ⌜ Short x ⌝ }
-    ensures { λ r. ⌜ r ≡ linesBy x s ⌝ }
+// The three lines after a sample.
+pub fn filter(depth: u8, l: Lines, s: Raw) -> Lines
+    requires { ⌜ Short depth l ⌝ }
+    ensures { λ r. ⌜ r ≡ filterLines depth l s ⌝ }
 {
-    let levels = x.levels;
-    let runs = x.runs;
-    let a = Line {
-        level: levels[0],
-        run: runs[0],
-    };
-    let b = Line {
-        level: levels[1],
-        run: runs[1],
-    };
-    let z = Line {
-        level: levels[2],
-        run: runs[2],
-    };
     Lines {
-        a: filter_line(a, s.a, x.depth),
-        b: filter_line(b, s.b, x.depth),
-        z: filter_line(z, s.z, x.depth),
+        a: filter_line(depth, l.a, s.a),
+        b: filter_line(depth, l.b, s.b),
+        z: filter_line(depth, l.z, s.z),
     }
 }

@@ -1,4 +1,4 @@
-// The three lines of an axis: the raw levels of a sample, and what the filter makes of them.
+// The three lines: the raw levels of a sample, and what the filter makes of them.
 ghost use mathlib.Core.Path.{_≡_};
 ghost use Rattle.axis_filter.specs.Lines.{rawOf};
 

@@ -20,7 +20,8 @@ reach-by : (t : Bool) (w next : ℕ) → Reach w → (t ≡ true → Reach next)
 reach-by true w next h step = step refl
 reach-by false w next h step = h
 
-held-by : (t r : Bool) (w next : ℕ) (z : ℤ) → (t ≡ true → inRange z ≡ true) → inRange z ≡ false → (cond t next w ≡ w) × (cond t r true ≡ true)
+held-by : (t r : Bool) (w next : ℕ) (z : ℤ) → (t ≡ true → inRange z ≡ true) → inRange z ≡ false →
+    (cond t next w ≡ w) × (cond t r true ≡ true)
 held-by true r w next z inside h = absurd (true≢false (sym (inside refl) ∙ h))
 held-by false r w next z inside h = (refl, refl)
 
@@ -84,7 +85,8 @@ holds Back w r k h =
     h
 
 -- HEADLINE: a count that leaves RANGE clear found it clear, and moves the position by what the entry is worth.
-pub counted : (m : Move) (w : ℕ) (r : Bool) → countedRange m w r ≡ false → (r ≡ false) × (positionOf (countedWord m w) ≡ positionOf w +ℤ worth m)
+pub counted : (m : Move) (w : ℕ) (r : Bool) → countedRange m w r ≡ false →
+    (r ≡ false) × (positionOf (countedWord m w) ≡ positionOf w +ℤ worth m)
 unfolding countedRange countedWord worth
 counted Still w r e = (e, stays w)
 counted Double w r e = (e, stays w)

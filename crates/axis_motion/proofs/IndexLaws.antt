@@ -41,7 +41,8 @@ back-turns a m h =
     go : Tested (ltb (suc (a % m)) m) → eqb (suc (a % m) % m) 0 ≡ eqb (m - suc (a % m)) 0
     go (yes e) =
         let f = ltb-true (suc (a % m)) m e in
-        rw (mod-eq-of-lt f, ne-eqb (m - suc (a % m)) 0 (λ z. let y : ⊥ = omega arith in y)) (ne-eqb (suc (a % m)) 0 (λ z. let y : ⊥ = omega arith in y))
+        rw (mod-eq-of-lt f, ne-eqb (m - suc (a % m)) 0 (λ z. let y : ⊥ = omega arith in y))
+        (ne-eqb (suc (a % m)) 0 (λ z. let y : ⊥ = omega arith in y))
     go (no e) =
         let f : suc (a % m) ≡ m = omega (arith, ltb-false (suc (a % m)) m e, mod-lt a h) in
         let g : m - suc (a % m) ≡ 0 = omega arith in

@@ -42,7 +42,8 @@ period-below Forward direction age period h = step-below 1 direction age
 period-below Back direction age period h = step-below 2 direction age
 period-below Double direction age period h = lit≤ tt
 
-pub resting : (m : Move) (direction age period : ℕ) → (direction ≡ 0 → period ≡ 0) → pacedDirection m direction ≡ 0 → pacedPeriod m direction age period ≡ 0
+pub resting : (m : Move) (direction age period : ℕ) → (direction ≡ 0 → period ≡ 0) → pacedDirection m direction ≡ 0 →
+    pacedPeriod m direction age period ≡ 0
 unfolding pacedDirection pacedPeriod
 resting Still direction age period h e = h e
 resting Forward direction age period h e = absurd (omega arith)

@@ -3,11 +3,8 @@ ghost use mathlib.Core.Path.{_≡_};
 ghost use Rattle.axis_motion.specs.Count.{countedBy, countedDoubles};
 use axis_decode::Move;
 use axis_decode::is_double;
-
-// The words of the last position and of the first.
-const LAST: u64 = 0x7fff_ffff_ffff_ffff;
-
-const FIRST: u64 = 1;
+use position::FIRST;
+use position::LAST;
 
 // Where doubles stop.
 const MOST: u16 = 65535;

@@ -4,31 +4,24 @@ ghost use mathlib.Core.Bool.{cond, _&&_, _||_};
 ghost use Prim.Native.Nat.{_^_};
 ghost use lib.IntN.{natAbs};
 ghost use Rattle.position.specs.Position.{positionOf};
-ghost use Rattle.axis_filter.specs.Lines.{three};
-ghost use Rattle.axis_motion.specs.Index.{rises, offTurn};
-use axis::row::Axis;
-use axis_filter::Lines;
+ghost use Rattle.axis_motion.specs.Index.{risesTo, offTurn};
+use position::ORIGIN;
 
-// The word of position 0.
-const MIDDLE: u64 = 0x4000_0000_0000_0000;
-
-// Whether Z rises where the lines of an axis become n.
-pub fn z_rises(x: Axis, n: Lines) -> bool
-    ensures { λ r. ⌜ r ≡ rises x (three n) ⌝ }
+// Whether Z rises from a level to the next.
+pub fn z_rises(old: bool, new: bool) -> bool
+    ensures { λ r. ⌜ r ≡ risesTo old new ⌝ }
 {
-    let levels = x.levels;
-    let z = n.z;
-    !levels[2] & z.level
+    !old & new
 }
 
 // How far the position of a word is from 0.
 fn distance(word: u64) -> u64
     ensures { λ r. ⌜ r ≡ natAbs (positionOf word) ⌝ }
 {
-    if word < MIDDLE {
-        return MIDDLE - word;
+    if word < ORIGIN {
+        return ORIGIN - word;
     }
-    word - MIDDLE
+    word - ORIGIN
 }
 
 // Whether the position of a word is no multiple of the counts per turn.
@@ -56,5 +49,5 @@ pub fn check(index: bool, checks: bool, turn: u32, word: u64) -> bool
 pub fn home(homes: bool, word: u64) -> u64
     ensures { λ r. ⌜ r ≡ cond homes (2 ^ 62) word ⌝ }
 {
-    if homes { MIDDLE } else { word }
+    if homes { ORIGIN } else { word }
 }

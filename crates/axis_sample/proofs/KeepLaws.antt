@@ -6,11 +6,11 @@ use lib.Dec.{ltb, lit<}
 use borrow.Author.Tests.{ltb-true}
 use Rattle.axis.specs.declared.row.Axis.{Axis}
 use Rattle.axis_sound.specs.Sound.{SampledAxis}
-use Rattle.axis_filter.specs.Lines.{A, B, Z, placeOf, levelOf, line}
-use Rattle.axis_filter.specs.Filter.{filtered, Short}
-use Rattle.axis_decode.specs.Decode.{moveTo}
+use Rattle.axis_filter.specs.Lines.{A, B, Z, levelOf}
+use Rattle.axis_filter.specs.Filter.{Short}
 use Rattle.axis_motion.specs.Count.{Reach}
-use Rattle.axis_motion.specs.Index.{rises, offTurn}
+use Rattle.axis_motion.specs.Index.{offTurn}
+use Rattle.axis_sample.specs.Lines.{placeOf, line, linesOf, filtered, moveTo, rises}
 use Rattle.axis_sample.specs.Step.{primedBy, settle, advanced, outcome, stepAxis}
 use Rattle.axis_filter.specs.declared.Raw.{Raw}
 use Rattle.axis_filter.proofs.FilterLaws.{filter-short}
@@ -18,7 +18,7 @@ use Rattle.axis_motion.proofs.CountLaws.{count-reach, doubles-below}
 use Rattle.axis_motion.proofs.PaceLaws.{direction-below, age-below, period-below, resting}
 
 -- The runs of a sampled axis are short.
-pub sampled-short : {x : Axis} → SampledAxis x → Short x
+pub sampled-short : {x : Axis} → SampledAxis x → Short (x .depth) (linesOf x)
 sampled-short g = record { runA = g .runA; runB = g .runB; runZ = g .runZ }
 
 -- ARMED and HOMED stay apart: homing clears the one as it sets the other.

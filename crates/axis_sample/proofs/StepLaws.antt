@@ -4,10 +4,10 @@ use mathlib.Core.Bool.{Bool, true, false, _&&_, and-true, and-false, or-true, or
 use lib.IntN.{_+ℤ_}
 use Rattle.position.specs.Position.{positionOf}
 use Rattle.axis.specs.declared.row.Axis.{Axis}
-use Rattle.axis_filter.specs.Lines.{Wire, A, B, Z, placeOf, levelOf, line, three}
-use Rattle.axis_filter.specs.Filter.{filtered, linesBy}
-use Rattle.axis_decode.specs.Decode.{isE, moveTo, worth}
-use Rattle.axis_motion.specs.Index.{rises}
+use Rattle.axis_filter.specs.Lines.{Wire, A, B, Z, levelOf, three}
+use Rattle.axis_filter.specs.Filter.{filterLines}
+use Rattle.axis_decode.specs.Decode.{isE, worth}
+use Rattle.axis_sample.specs.Lines.{placeOf, line, linesOf, filtered, moveTo, rises}
 use Rattle.axis_sample.specs.Step.{primedBy, settle, moveOf, zRose, advanced, outcome, stepAxis}
 use Rattle.axis_sample.specs.After.{Configured, Primed, Entered, Moved, Homed}
 use Rattle.axis_filter.specs.declared.Line.{Line}
@@ -16,11 +16,11 @@ use Rattle.axis_filter.specs.declared.Raw.{Raw}
 use Rattle.axis_motion.proofs.CountLaws.{counted}
 
 -- Three lines that are read by name are those lines.
-pub lines-are : (x : Axis) (s : Raw) {n : Lines} → n ≡ linesBy x s → three n ≡ filtered x s
-unfolding three
+pub lines-are : (x : Axis) (s : Raw) {n : Lines} → n ≡ filterLines (x .depth) (linesOf x) s → three n ≡ filtered x s
+unfolding three filtered line placeOf levelOf
 lines-are x s e = ap three e ∙ (λ i w. go w i)
   where
-    go : (w : Wire) → three (linesBy x s) w ≡ filtered x s w
+    go : (w : Wire) → three (filterLines (x .depth) (linesOf x) s) w ≡ filtered x s w
     go A = refl
     go B = refl
     go Z = refl
@@ -85,7 +85,8 @@ module _ (x : Axis) (n : Wire → Line) where
     where
       go : (a z : Bool) → x .armed ≡ a → rises x n ≡ z → Moved x n
       go true true p q = absurd (true≢false (sym (rw (q, p)) ∙ h))
-      go true false p q = record { word = rw (q, p); range = rw (q, p, and-true); armed = rw (q, p); homed = rw (q, p, or-false); index = rw q }
+      go true false p q =
+          record { word = rw (q, p); range = rw (q, p, and-true); armed = rw (q, p); homed = rw (q, p, or-false); index = rw q }
       go false z p q = record { word = rw p; range = rw (p, and-true); armed = rw p; homed = rw (p, or-false); index = rw (p, and-true) }
 
   -- HEADLINE: a sample that homes puts the position to 0, sets HOMED, clears ARMED and RANGE, and checks nothing.
@@ -94,7 +95,13 @@ module _ (x : Axis) (n : Wire → Line) where
   homes-to-0 h = go (x .armed) (rises x n) refl refl
     where
       go : (a z : Bool) → x .armed ≡ a → rises x n ≡ z → Homed x n
-      go true true p q = record { position = rw (q, p); range = rw (q, p, and-false); armed = rw (q, p); homed = rw (q, p, or-true); index = rw (q, p, or-false) }
+      go true true p q = record {
+        position = rw (q, p);
+        range = rw (q, p, and-false);
+        armed = rw (q, p);
+        homed = rw (q, p, or-true);
+        index = rw (q, p, or-false);
+      }
       go true false p q = absurd (true≢false (sym h ∙ rw (q, p)))
       go false z p q = absurd (true≢false (sym h ∙ rw p))
 

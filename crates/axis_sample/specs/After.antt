@@ -4,11 +4,11 @@ use mathlib.Core.Bool.{true, false, _&&_, _||_}
 use lib.IntN.{pos}
 use Rattle.position.specs.Position.{positionOf}
 use Rattle.axis.specs.declared.row.Axis.{Axis}
-use Rattle.axis_filter.specs.Lines.{Wire, levelOf, line}
-use Rattle.axis_decode.specs.Decode.{moveTo}
+use Rattle.axis_filter.specs.Lines.{Wire, levelOf}
 use Rattle.axis_motion.specs.Count.{countedWord, countedRange, countedDoubles}
 use Rattle.axis_motion.specs.Pace.{pacedDirection, pacedAge, pacedPeriod}
-use Rattle.axis_motion.specs.Index.{rises, offTurn}
+use Rattle.axis_motion.specs.Index.{offTurn}
+use Rattle.axis_sample.specs.Lines.{line, moveTo, rises}
 use Rattle.axis_sample.specs.Step.{settle}
 use Rattle.axis_filter.specs.declared.Line.{Line}
 use Rattle.axis_filter.specs.declared.Raw.{Raw}

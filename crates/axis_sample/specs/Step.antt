@@ -10,11 +10,11 @@ use Rattle.axis.specs.declared.row.Row.{Row}
 use Rattle.axis_sound.specs.declared.Status.{Status}
 use Rattle.axis_sound.specs.declared.Status.the-variants.{Empty, Sampled, Counter, Broken}
 use Rattle.axis_filter.specs.Lines.{Wire, A, B, Z, rawOf}
-use Rattle.axis_filter.specs.Filter.{filtered}
-use Rattle.axis_decode.specs.Decode.{isE, moveTo}
+use Rattle.axis_decode.specs.Decode.{isE}
 use Rattle.axis_motion.specs.Count.{countedWord, countedRange, countedDoubles}
 use Rattle.axis_motion.specs.Pace.{pacedDirection, pacedAge, pacedPeriod}
-use Rattle.axis_motion.specs.Index.{rises, offTurn}
+use Rattle.axis_motion.specs.Index.{offTurn}
+use Rattle.axis_sample.specs.Lines.{filtered, moveTo, rises}
 use Rattle.axis_decode.specs.declared.Move.{Move}
 use Rattle.axis_filter.specs.declared.Line.{Line}
 use Rattle.axis_filter.specs.declared.Raw.{Raw}

@@ -4,14 +4,14 @@ ghost use mathlib.Core.Bool.{true, false};
 ghost use Rattle.axis_sound.specs.Sound.{SampledAxis};
 ghost use Rattle.axis_filter.specs.Lines.{three, rawOf};
 ghost use Rattle.axis_filter.specs.Filter.{Short};
-ghost use Rattle.axis_decode.specs.Decode.{moveTo};
-ghost use Rattle.axis_motion.specs.Index.{rises};
+ghost use Rattle.axis_sample.specs.Lines.{linesOf, moveTo, rises};
 ghost use Rattle.axis_sample.specs.Step.{settle, outcome, stepAxis, packed, kept, stepRow};
 use axis::row::Axis;
 use axis::row::Row;
 use axis_decode::Move;
 use axis_decode::is_double;
-use axis_decode::move_to;
+use axis_decode::move_between;
+use axis_filter::Line;
 use axis_filter::Lines;
 use axis_filter::Raw;
 use axis_filter::filter::filter;
@@ -93,14 +93,36 @@ fn settled(x: Axis, n: Lines, m: Move, rose: bool) -> Axis
     y
 }
 
+// The three lines of an axis.
+fn lines_of(x: Axis) -> Lines
+    ensures { λ r. ⌜ r ≡ linesOf x ⌝ }
+{
+    let levels = x.levels;
+    let runs = x.runs;
+    let a = Line {
+        level: levels[0],
+        run: runs[0],
+    };
+    let b = Line {
+        level: levels[1],
+        run: runs[1],
+    };
+    let z = Line {
+        level: levels[2],
+        run: runs[2],
+    };
+    Lines { a, b, z }
+}
+
 // A primed axis after a sample.
 fn advance(x: Axis, s: Raw) -> Stepped
-    requires { ⌜ Short x ⌝ }
+    requires { ⌜ Short (x .depth) (linesOf x) ⌝ }
     ensures { λ r. ⌜ r ≡ outcome true x s ⌝ }
 {
-    let n = filter(x, s);
-    let m = move_to(x, n);
-    let rose = z_rises(x, n);
+    let levels = x.levels;
+    let n = filter(x.depth, lines_of(x), s);
+    let m = move_between(x.kind, levels[0], levels[1], n.a.level, n.b.level);
+    let rose = z_rises(levels[2], n.z.level);
     Stepped {
         axis: settled(x, n, m, rose),
         double: is_double(m),
@@ -110,7 +132,7 @@ fn advance(x: Axis, s: Raw) -> Stepped
 
 // An axis after a sample.
 pub fn step_axis(x: Axis, s: Raw) -> Stepped
-    requires { ⌜ Short x ⌝ }
+    requires { ⌜ Short (x .depth) (linesOf x) ⌝ }
     ensures { λ r. ⌜ r ≡ stepAxis x s ⌝ }
 {
     if x.primed {

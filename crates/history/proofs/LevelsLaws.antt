@@ -5,8 +5,8 @@ use mathlib.Core.List.{List, [], _∷_}
 use Prim.Native.Nat.{_<_}
 use native.Mathlib.Omega.{arith}
 use Rattle.axis.specs.declared.row.Axis.{Axis}
-use Rattle.axis_filter.specs.Lines.{Wire, A, B, Z, placeOf, levelOf, line}
-use Rattle.axis_filter.specs.Filter.{filtered}
+use Rattle.axis_filter.specs.Lines.{Wire, A, B, Z, levelOf}
+use Rattle.axis_sample.specs.Lines.{placeOf, line, filtered}
 use Rattle.axis_filter.specs.declared.Line.{Line}
 use Rattle.axis_filter.specs.declared.Raw.{Raw}
 use Rattle.history.specs.Acts.{Act, sampled}

@@ -4,10 +4,9 @@ use mathlib.Core.Bool.{true, _&&_}
 use mathlib.Core.List.{List, [], _∷_}
 use Rattle.position.specs.Position.{inRange, wordOf, positionOf}
 use Rattle.axis.specs.declared.row.Axis.{Axis}
-use Rattle.axis_filter.specs.Lines.{Wire, A, B, Z, placeOf, line}
-use Rattle.axis_filter.specs.Filter.{filtered}
-use Rattle.axis_decode.specs.Decode.{moveTo, entry, isE}
-use Rattle.axis_motion.specs.Index.{rises}
+use Rattle.axis_filter.specs.Lines.{Wire, A, B, Z}
+use Rattle.axis_decode.specs.Decode.{entry, isE}
+use Rattle.axis_sample.specs.Lines.{placeOf, line, filtered, moveTo, rises}
 use Rattle.axis_motion.specs.Count.{countedWord}
 use Rattle.axis_sample.specs.Step.{settle, outcome}
 use Rattle.axis_decode.specs.declared.Move.{Move}

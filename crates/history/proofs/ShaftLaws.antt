@@ -15,7 +15,7 @@ use Rattle.position.specs.Position.{positionOf}
 use Rattle.axis.specs.Kind.{X4}
 use Rattle.axis.specs.declared.row.Axis.{Axis}
 use Rattle.axis_filter.specs.Lines.{A, B, levelOf}
-use Rattle.axis_decode.specs.Decode.{code, x4, tableOf, entryIn, entry, worth, isE}
+use Rattle.axis_decode.specs.Decode.{code, x4, tableOf, entry, worth, isE}
 use Rattle.axis_sample.specs.Step.{stepAxis}
 use Rattle.axis_decode.specs.declared.Move.{Move}
 use Rattle.axis_decode.specs.declared.Move.the-variants.{Still, Forward, Back, Double}
@@ -71,7 +71,7 @@ expected (negsuc (suc n)) = Double
 
 -- The table has it at every angle.
 entry-at : (d : ℤ) → natAbs d ≤ 2 → (i : ℕ) → i < 4 → entry X4 (getD cycle i 0) (getD cycle ((i + modZ d 4) % 4) 0) ≡ expected d
-unfolding expected cycle modZ entryIn tableOf x4
+unfolding expected cycle modZ entry tableOf x4
 entry-at (pos zero) g = below-four (λ i. entry X4 (getD cycle i 0) (getD cycle ((i + 0) % 4) 0) ≡ Still) refl refl refl refl
 entry-at (pos (suc zero)) g = below-four (λ i. entry X4 (getD cycle i 0) (getD cycle ((i + 1) % 4) 0) ≡ Forward) refl refl refl refl
 entry-at (pos (suc (suc zero))) g = below-four (λ i. entry X4 (getD cycle i 0) (getD cycle ((i + 2) % 4) 0) ≡ Double) refl refl refl refl

@@ -9,7 +9,8 @@ use lib.ListN.{getD, length}
 use Rattle.position.specs.Position.{inRange}
 use Rattle.position.proofs.PositionLaws.{position-in-range, word-position}
 use Rattle.axis.specs.declared.row.Axis.{Axis}
-use Rattle.axis_filter.specs.Lines.{A, B, Z, placeOf, line}
+use Rattle.axis_filter.specs.Lines.{A, B, Z}
+use Rattle.axis_sample.specs.Lines.{placeOf, line}
 use Rattle.axis_sample.specs.Step.{outcome, stepAxis}
 use Rattle.axis_filter.specs.declared.Raw.{Raw}
 use Rattle.axis_sample.specs.declared.step.Stepped.{Stepped}

@@ -3,7 +3,8 @@ use Prim.Native.Nat.{_^_, _≤_, _<_}
 use mathlib.Core.Path.{_≡_}
 use lib.ListN.{length}
 use Rattle.axis.specs.declared.row.Axis.{Axis}
-use Rattle.axis_filter.specs.Lines.{Wire, line}
+use Rattle.axis_filter.specs.Lines.{Wire}
+use Rattle.axis_sample.specs.Lines.{line}
 
 -- What a history asks of its starting axis, which is no more than a sound sampled row gives.
 pub record Start (x : Axis) : Type 0 where

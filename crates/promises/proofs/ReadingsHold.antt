@@ -7,16 +7,17 @@ use Rattle.reckon.specs.Widening.{goodReading, within, nearestTo, widened}
 use Rattle.reckon.specs.Rounding.{rounded}
 use Rattle.reckon.specs.Speed.{goodCount, speedByCount}
 use Rattle.axis_sound.specs.Sound.{statusOf}
-use Rattle.axis_filter.specs.Lines.{placeOf, levelOf, line}
-use Rattle.axis_filter.specs.Filter.{filterLine, filtered}
-use Rattle.axis_decode.specs.Decode.{x1, x2, x4, tableOf, entryIn, isE, moveTo}
+use Rattle.axis_filter.specs.Lines.{levelOf}
+use Rattle.axis_filter.specs.Filter.{filterLine}
+use Rattle.axis_decode.specs.Decode.{x1, x2, x4, tableOf, entry, isE}
 use Rattle.axis_motion.specs.Count.{countedWord, countedRange, countedDoubles}
 use Rattle.axis_motion.specs.Pace.{older, pacedDirection, pacedAge, stepPeriod, pacedPeriod}
-use Rattle.axis_motion.specs.Index.{rises, offTurn}
+use Rattle.axis_motion.specs.Index.{offTurn}
+use Rattle.axis_sample.specs.Lines.{placeOf, line, filtered, moveTo, rises}
 use Rattle.axis_sample.specs.Step.{primedBy, settle, outcome, stepAxis, stepBy, stepRow}
 use Rattle.promises.specs.Readings.{setUp, sampledBy, counted, levelled, Reading, _shows_, readings}
 
 -- HEADLINE: each of the twelve shows what document 01 states.
 pub readings-hold : map (λ (r : Reading). r .gives) readings ≡ map (λ (r : Reading). r .stated) readings
-unfolding readings _shows_ setUp sampledBy counted levelled positionOf inRange modZ goodReading within nearestTo widened rounded goodCount speedByCount statusOf placeOf levelOf line filterLine filtered x1 x2 x4 tableOf entryIn isE moveTo countedWord countedRange countedDoubles older pacedDirection pacedAge stepPeriod pacedPeriod rises offTurn primedBy settle outcome stepAxis stepBy stepRow
+unfolding readings _shows_ setUp sampledBy counted levelled positionOf inRange modZ goodReading within nearestTo widened rounded goodCount speedByCount statusOf placeOf levelOf line filterLine filtered x1 x2 x4 tableOf entry isE moveTo countedWord countedRange countedDoubles older pacedDirection pacedAge stepPeriod pacedPeriod rises offTurn primedBy settle outcome stepAxis stepBy stepRow
 readings-hold = refl

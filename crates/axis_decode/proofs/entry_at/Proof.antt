@@ -18,7 +18,9 @@ returns-3 : tie.Need-returns-3
 returns-3 c = told-is (c .before .before .before .mark-at .ensures) (ap told (c .if3 .taken))
 
 returns-4 : tie.Need-returns-4
-returns-4 c = told-is (c .before .before .before .mark-at .ensures) (rw (ne-eqb _ _ (c .before .before .if1 .left), ne-eqb _ _ (c .before .if2 .left), ne-eqb _ _ (c .if3 .left)))
+returns-4 c =
+    told-is (c .before .before .before .mark-at .ensures)
+    (rw (ne-eqb _ _ (c .before .before .if1 .left), ne-eqb _ _ (c .before .if2 .left), ne-eqb _ _ (c .if3 .left)))
 
 pub entry-at-spec : {M : Type 1} → statement M
 entry-at-spec = tie.close (tie.spec mark-at-requires returns returns-2 returns-3 returns-4)

@@ -1,38 +1,66 @@
 use borrow.Author.Tests.{eq-eqb, ne-eqb}
-use Rattle.axis_decode.specs.Decode.{tableOf, entryIn, mark, x1, x2, x4}
-use Rattle.axis_decode.proofs.DecodeLaws.{read}
+use Rattle.axis_decode.specs.Decode.{tableOf, entry, mark, x1, x2, x4}
+use Rattle.axis_decode.proofs.DecodeLaws.{read-in}
 use borrow.Author.Needs.{needs}
 use Rattle.axis_decode.proofs.mark_at.Statement.{statement}
 use Rattle.axis_decode.proofs.mark_at.Tie as tie
 
-array-copy-out-result : tie.Need-array-copy-out-result
-array-copy-out-result c = search needs
+mul-result : tie.Need-mul-result
+mul-result c = search needs
+
+index-1-result : tie.Need-index-1-result
+index-1-result c = search needs
+
+index-2-result : tie.Need-index-2-result
+index-2-result c = search needs
 
 returns : tie.Need-returns
-unfolding tableOf entryIn mark x4
-returns c = rw (eq-eqb _ _ (c .before .if1 .taken)) (read x4 (c .before .before .args .at))
+unfolding tableOf entry mark x4
+returns c = rw (eq-eqb _ _ (c .before .if1 .taken)) (read-in x4 (c .before .before .args .old) (c .before .before .args .new))
 
-array-copy-out-result-2 : tie.Need-array-copy-out-result-2
-array-copy-out-result-2 c = search needs
+mul-result-2 : tie.Need-mul-result-2
+mul-result-2 c = search needs
+
+index-1-result-2 : tie.Need-index-1-result-2
+index-1-result-2 c = search needs
+
+index-2-result-2 : tie.Need-index-2-result-2
+index-2-result-2 c = search needs
 
 returns-2 : tie.Need-returns-2
-unfolding tableOf entryIn mark x2
-returns-2 c = rw (ne-eqb _ _ (c .before .before .if1 .left), eq-eqb _ _ (c .before .if2 .taken)) (read x2 (c .before .before .before .args .at))
+unfolding tableOf entry mark x2
+returns-2 c =
+    let args = c .before .before .before .args in
+    rw (ne-eqb _ _ (c .before .before .if1 .left), eq-eqb _ _ (c .before .if2 .taken)) (read-in x2 (args .old) (args .new))
 
-array-copy-out-result-3 : tie.Need-array-copy-out-result-3
-array-copy-out-result-3 c = search needs
+mul-result-3 : tie.Need-mul-result-3
+mul-result-3 c = search needs
+
+index-1-result-3 : tie.Need-index-1-result-3
+index-1-result-3 c = search needs
+
+index-2-result-3 : tie.Need-index-2-result-3
+index-2-result-3 c = search needs
 
 returns-3 : tie.Need-returns-3
-unfolding tableOf entryIn mark x1
-returns-3 c = rw (ne-eqb _ _ (c .before .before .if1 .left), ne-eqb _ _ (c .before .if2 .left)) (read x1 (c .before .before .before .args .at))
+unfolding tableOf entry mark x1
+returns-3 c =
+    let args = c .before .before .before .args in
+    rw (ne-eqb _ _ (c .before .before .if1 .left), ne-eqb _ _ (c .before .if2 .left)) (read-in x1 (args .old) (args .new))
 
 pub mark-at-spec : {M : Type 1} → statement M
 mark-at-spec =
     tie.close
     (tie.spec
-    array-copy-out-result
+    mul-result
+    index-1-result
+    index-2-result
     returns
-    array-copy-out-result-2
+    mul-result-2
+    index-1-result-2
+    index-2-result-2
     returns-2
-    array-copy-out-result-3
+    mul-result-3
+    index-1-result-3
+    index-2-result-3
     returns-3)

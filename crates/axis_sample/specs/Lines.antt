@@ -1,0 +1,43 @@
+-- What the filter, the tables and the index line make of an axis and a sample: document 01, "A port sample".
+use Prim.Native.Nat.{ℕ}
+use mathlib.Core.Bool.{Bool, false}
+use lib.ListN.{getD}
+use Rattle.axis.specs.declared.row.Axis.{Axis}
+use Rattle.axis_filter.specs.Lines.{Wire, A, B, Z, levelOf}
+use Rattle.axis_filter.specs.Filter.{filterLine}
+use Rattle.axis_filter.specs.declared.Line.{Line}
+use Rattle.axis_filter.specs.declared.Lines.{Lines}
+use Rattle.axis_filter.specs.declared.Raw.{Raw}
+use Rattle.axis_decode.specs.Decode.{code, entry}
+use Rattle.axis_decode.specs.declared.Move.{Move}
+use Rattle.axis_motion.specs.Index.{risesTo}
+
+-- The line at a place of an axis's levels and runs.
+abbrev pub lineIn : Axis → ℕ → Line
+lineIn x place = record { level = getD (x .levels) place false; run = getD (x .runs) place 0 }
+
+-- The three lines of an axis.
+abbrev pub linesOf : Axis → Lines
+linesOf x = record { a = lineIn x 0; b = lineIn x 1; z = lineIn x 2 }
+
+-- The place of each.
+unfoldable pub placeOf : Wire → ℕ
+placeOf A = 0
+placeOf B = 1
+placeOf Z = 2
+
+-- A line as an axis has it.
+unfoldable pub line : Axis → Wire → Line
+line x w = lineIn x (placeOf w)
+
+-- The filtered lines of an axis after a sample.
+unfoldable pub filtered : Axis → Raw → Wire → Line
+filtered x s w = filterLine (x .depth) (line x w) (levelOf s w)
+
+-- The entry of an axis whose filtered lines become n.
+unfoldable pub moveTo : Axis → (Wire → Line) → Move
+moveTo x n = entry (x .kind) (code (line x A .level) (line x B .level)) (code (n A .level) (n B .level))
+
+-- Filtered Z goes from 0 to 1 where the lines of an axis become n.
+unfoldable pub rises : Axis → (Wire → Line) → Bool
+rises x n = risesTo (line x Z .level) (n Z .level)
