@@ -39,12 +39,12 @@ bit-below true = lit< tt
 bit-below false = lit< tt
 
 -- A list of three is its three elements.
-three : {A : Type 0} (l : List A) (d : A) → length l ≡ 3 → getD l 0 d ∷ getD l 1 d ∷ getD l 2 d ∷ [] ≡ l
-three (x ∷ y ∷ z ∷ []) d h = refl
-three [] d h = absurd (omega arith)
-three (x ∷ []) d h = absurd (omega arith)
-three (x ∷ y ∷ []) d h = absurd (omega arith)
-three (x ∷ y ∷ z ∷ t ∷ l) d h = absurd (omega arith)
+pub three-of : {A : Type 0} (l : List A) (d : A) → length l ≡ 3 → getD l 0 d ∷ getD l 1 d ∷ getD l 2 d ∷ [] ≡ l
+three-of (x ∷ y ∷ z ∷ []) d h = refl
+three-of [] d h = absurd (omega arith)
+three-of (x ∷ []) d h = absurd (omega arith)
+three-of (x ∷ y ∷ []) d h = absurd (omega arith)
+three-of (x ∷ y ∷ z ∷ t ∷ l) d h = absurd (omega arith)
 
 -- Configurations, flags, paces and axes that agree are one.
 pub same-config : {c d : Config} → SameConfig c d → c ≡ d
@@ -154,8 +154,8 @@ comes-back a h =
           (λ j. back-flag a n 8 (getD (a .levels) 0 false) refl j
           ∷ back-flag a n 9 (getD (a .levels) 1 false) refl j
           ∷ back-flag a n 10 (getD (a .levels) 2 false) refl j ∷ [])
-          ∙ three (a .levels) false (h .levels);
-      runs = (λ j. back a n 11 j ∷ back a n 12 j ∷ back a n 13 j ∷ []) ∙ three (a .runs) 0 (h .runs);
+          ∙ three-of (a .levels) false (h .levels);
+      runs = (λ j. back a n 11 j ∷ back a n 12 j ∷ back a n 13 j ∷ []) ∙ three-of (a .runs) 0 (h .runs);
       doubles = back a n 15;
       pace = record { direction = back a n 16; age = λ i. getD (two i) 0 0; period = λ i. getD (two i) 1 0 };
     })

@@ -53,12 +53,12 @@ room-here w h = ap inRange (sym (stays w)) ∙ position-in-range w h
 -- ---- the count
 
 -- A count leaves a word that holds a position.
-pub count-word : (m : Move) (w : ℕ) → Word w → Word (countedWord m w)
+pub count-keeps : (m : Move) (w : ℕ) → Word w → Word (countedWord m w)
 unfolding countedWord
-count-word Still w h = h
-count-word Double w h = h
-count-word Forward w h = word-by (ltb w (2 ^ 63 - 1)) w (w + 1) h (λ t. record { above = omega arith; below = omega (arith, ltb-true) })
-count-word Back w h = word-by (ltb 1 w) w (w - 1) h (λ t. record { above = omega (arith, ltb-true); below = omega arith })
+count-keeps Still w h = h
+count-keeps Double w h = h
+count-keeps Forward w h = word-by (ltb w (2 ^ 63 - 1)) w (w + 1) h (λ t. record { above = omega arith; below = omega (arith, ltb-true) })
+count-keeps Back w h = word-by (ltb 1 w) w (w - 1) h (λ t. record { above = omega (arith, ltb-true); below = omega arith })
 
 -- HEADLINE: an entry whose step stays in the range moves the position by what it is worth, and leaves RANGE.
 pub moves : (m : Move) (w : ℕ) (r : Bool) → inRange (positionOf w +ℤ worth m) ≡ true →

@@ -17,7 +17,7 @@ use Rattle.axis_sample.specs.Lines.{placeOf, line, linesOf, filtered, mo
 use Rattle.axis_sample.specs.Step.{primedBy, settle, advanced, outcome, stepAxis}
 use Rattle.axis_filter.specs.declared.Raw.{Raw}
 use Rattle.axis_filter.proofs.FilterLaws.{filter-short}
-use Rattle.axis_motion.proofs.CountLaws.{count-word, doubles-below}
+use Rattle.axis_motion.proofs.CountLaws.{count-keeps, doubles-below}
 use Rattle.axis_motion.proofs.PaceLaws.{direction-below, age-below, period-below, resting}
 
 -- The runs of a sampled axis are short.
@@ -63,7 +63,7 @@ keep-advance x s g =
     let d = x .config .depth in
     let f = x .flags in
     record {
-      word = home-word (f .armed && rises x n) (count-word m (x .word) (g .word));
+      word = home-word (f .armed && rises x n) (count-keeps m (x .word) (g .word));
       config = g .config;
       runA = filter-short d (line x A) (levelOf s A) (g .runA);
       runB = filter-short d (line x B) (levelOf s B) (g .runB);

@@ -78,7 +78,7 @@ afterChange p (restore bytes) = restoredTo p (readAs bytes)
 -- The phase after a call; one that only looks changes nothing.
 unfoldable pub afterCall : Phase → Op → Phase
 afterCall p (changes c) = afterChange p c
-afterCall p (reading x) = bySort p (readTo p (widened (axisOf (p .start) .width) (p .place) x)) (statusOf (p .start)) p
+afterCall p (reading x) = bySort p (readTo p (widened (axisOf (p .start) .config .width) (p .place) x)) (statusOf (p .start)) p
 afterCall p (looks l) = p
 
 -- The phase after an event.

@@ -186,7 +186,7 @@ pub reading-late : (x : ℕ) (r : Row) → After Axis (refusalIn (readingRow x r
 unfolding readingRow
 reading-late x r =
     let a = axisOf r in
-    by-status refusalIn Unreckoned (λ e. refl) _ _ (inr (lit< tt)) (widened-late (a .width) (positionOf (a .word)) x) (statusOf r)
+    by-status refusalIn Unreckoned (λ e. refl) _ _ (inr (lit< tt)) (widened-late (a .config .width) (positionOf (a .word)) x) (statusOf r)
 
 count-late : (D : ℤ) (T F : ℕ) → After Axis (refusalIn (speedByCount D T F))
 unfolding speedByCount
@@ -195,9 +195,9 @@ count-late D T F = either refusalIn Axis (goodCount D && goodSamples T && goodRa
 pub speed-late : (rate : ℕ) (r : Row) → After Axis (refusalIn (speedRow rate r))
 unfolding speedRow speedOf
 speed-late rate r =
-    let a = axisOf r in
-    let counted = either refusalIn Axis (eqb (a .period) 0) (Unreckoned NoPeriod) (speedByCount (signOf (a .direction)) (spanOf a) rate)
-    (inr (lit< tt)) (count-late (signOf (a .direction)) (spanOf a) rate) in
+    let p = axisOf r .pace in
+    let counted = either refusalIn Axis (eqb (p .period) 0) (Unreckoned NoPeriod) (speedByCount (signOf (p .direction)) (spanOf p) rate)
+    (inr (lit< tt)) (count-late (signOf (p .direction)) (spanOf p) rate) in
     by-status refusalIn Unreckoned (λ e. refl) _ _ (either refusalIn Axis (goodRate rate) _ _ counted (inr (lit< tt))) (inr (lit< tt)) (statusOf r)
 
 saved-late : (room : ℕ) (s : Saved) → After Axis (writtenNumber (savedAs room s))
