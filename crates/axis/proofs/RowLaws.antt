@@ -12,8 +12,11 @@ use Rattle.fields.specs.Layout.{split, join, Within}
 use Rattle.fields.proofs.LayoutLaws.{split-join, join-split, join-below}
 use Rattle.axis.specs.declared.config.Config.{Config}
 use Rattle.axis.specs.declared.row.Axis.{Axis}
+use Rattle.axis.specs.declared.row.Flags.{Flags}
+use Rattle.axis.specs.declared.row.Pace.{Pace}
 use Rattle.axis.specs.declared.row.Row.{Row}
-use Rattle.axis.specs.Row.{layout, fieldsOf, axisOf, rowOf, word1Of, word2Of, freshAt, Narrow, Held, Words, Agree}
+use Rattle.axis.specs.Row.{layout, fieldsOf, axisOf, rowOf, word1Of, word2Of}
+use Rattle.axis.specs.Row.{waiting, Slim, Narrow, Held, Words, SameConfig, SameFlags, SamePace, Agree}
 
 -- A number below 2 that is read as a flag is that bit again.
 bit-flag-at : (x : ℕ) → x < 2 → bitOf (eqb x 1) ≡ x
@@ -36,74 +39,63 @@ bit-below true = lit< tt
 bit-below false = lit< tt
 
 -- A list of three is its three elements.
-three : {A : Type 0} (l : List A) (d : A) → length l ≡ 3 → getD l 0 d ∷ getD l 1 d ∷ getD l 2 d ∷ [] ≡ l
-three (x ∷ y ∷ z ∷ []) d h = refl
-three [] d h = absurd (omega arith)
-three (x ∷ []) d h = absurd (omega arith)
-three (x ∷ y ∷ []) d h = absurd (omega arith)
-three (x ∷ y ∷ z ∷ t ∷ l) d h = absurd (omega arith)
+pub three-of : {A : Type 0} (l : List A) (d : A) → length l ≡ 3 → getD l 0 d ∷ getD l 1 d ∷ getD l 2 d ∷ [] ≡ l
+three-of (x ∷ y ∷ z ∷ []) d h = refl
+three-of [] d h = absurd (omega arith)
+three-of (x ∷ []) d h = absurd (omega arith)
+three-of (x ∷ y ∷ []) d h = absurd (omega arith)
+three-of (x ∷ y ∷ z ∷ t ∷ l) d h = absurd (omega arith)
 
--- Two axes that agree are one.
+-- Configurations, flags, paces and axes that agree are one.
+pub same-config : {c d : Config} → SameConfig c d → c ≡ d
+same-config h = λ i. record { kind = h .kind i; depth = h .depth i; width = h .width i; turn = h .turn i }
+
+pub same-flags : {f g : Flags} → SameFlags f g → f ≡ g
+same-flags h = λ i. record { primed = h .primed i; armed = h .armed i; homed = h .homed i; range = h .range i; index = h .index i }
+
+pub same-pace : {p q : Pace} → SamePace p q → p ≡ q
+same-pace h = λ i. record { direction = h .direction i; age = h .age i; period = h .period i }
+
 pub agree : {r s : Axis} → Agree r s → r ≡ s
 agree h = λ i. record {
   word = h .word i;
-  kind = h .kind i;
-  depth = h .depth i;
-  width = h .width i;
-  primed = h .primed i;
-  armed = h .armed i;
-  homed = h .homed i;
-  range = h .range i;
-  index = h .index i;
+  config = same-config (h .config) i;
+  flags = same-flags (h .flags) i;
   levels = h .levels i;
   runs = h .runs i;
   doubles = h .doubles i;
-  direction = h .direction i;
-  age = h .age i;
-  period = h .period i;
-  turn = h .turn i;
+  pace = same-pace (h .pace) i;
 }
 
 -- The axis of any row is one that a row can hold.
 pub row-held : (r : Row) → Held (axisOf r)
 row-held r = record { narrow = omega arith; age = omega arith; period = omega arith; levels = refl; runs = refl }
 
--- A row can hold what setup makes of a configuration within the widths of its fields.
-pub fresh-held : (c : Config) (w : ℕ) → c .kind < 2 ^ 4 → c .depth < 2 ^ 4 → c .width < 2 ^ 6 → Held (freshAt c w)
-fresh-held c w kind depth width = record {
-  narrow = record {
-    kind = kind;
-    depth = depth;
-    width = width;
-    runA = lit< tt;
-    runB = lit< tt;
-    runZ = lit< tt;
-    doubles = lit< tt;
-    direction = lit< tt;
-  };
+-- A row can hold an axis that waits, of a configuration within the widths of its fields.
+pub waiting-held : {c : Config} → Slim c → (w : ℕ) (armed : Bool) → Held (waiting c w armed)
+waiting-held slim w armed = record {
+  narrow = record { config = slim; runA = lit< tt; runB = lit< tt; runZ = lit< tt; doubles = lit< tt; direction = lit< tt };
   age = lit< tt;
   period = lit< tt;
   levels = refl;
   runs = refl;
 }
 
--- Word 1, unpacked and packed, where the bits that have no name are 0.
-word1-again : (r : Row) → r .w1 < 2 ^ 64 → fieldOf 31 1 (r .w1) ≡ 0 → fieldOf 50 14 (r .w1) ≡ 0 → word1Of (axisOf r) ≡ r .w1
-word1-again r h low high =
+-- The fields of a row's axis are those of its word 1, where the bits that have no name are 0.
+pub fields-again : (r : Row) → fieldOf 31 1 (r .w1) ≡ 0 → fieldOf 50 14 (r .w1) ≡ 0 → fieldsOf (axisOf r) ≡ split 0 layout (r .w1)
+fields-again r low high =
     let w = r .w1 in
-    (λ i. join 0 layout
-    (fieldOf 0 4 w ∷ fieldOf 4 4 w ∷ fieldOf 8 6 w
+    λ i. fieldOf 0 4 w ∷ fieldOf 4 4 w ∷ fieldOf 8 6 w
     ∷ bit-flag 14 w i ∷ bit-flag 15 w i ∷ bit-flag 16 w i ∷ bit-flag 17 w i ∷ bit-flag 18 w i
     ∷ bit-flag 19 w i ∷ bit-flag 20 w i ∷ bit-flag 21 w i
     ∷ fieldOf 22 3 w ∷ fieldOf 25 3 w ∷ fieldOf 28 3 w
-    ∷ sym low i ∷ fieldOf 32 16 w ∷ fieldOf 48 2 w ∷ sym high i ∷ []))
-    ∙ join-split layout w h
+    ∷ sym low i ∷ fieldOf 32 16 w ∷ fieldOf 48 2 w ∷ sym high i ∷ []
 
 -- A row whose bits without a name are 0 is what its axis packs to.
 pub row-again : (r : Row) → Words r → fieldOf 31 1 (r .w1) ≡ 0 → fieldOf 50 14 (r .w1) ≡ 0 → rowOf (axisOf r) ≡ r
 row-again r h low high = λ i. record {
   w0 = r .w0;
-  w1 = word1-again r (h .w1) low high i;
+  w1 = (ap (join 0 layout) (fields-again r low high) ∙ join-split layout (r .w1) (h .w1)) i;
   w2 = join-split (32 ∷ 32 ∷ []) (r .w2) (h .w2) i;
   w3 = r .w3;
 }
@@ -111,24 +103,25 @@ row-again r h low high = λ i. record {
 -- The values of word 1's fields are within the layout.
 within : (a : Axis) → Narrow a → Within layout (fieldsOf a)
 within a h =
+    let f = a .flags in
     omega (
       arith,
-      bit-below (a .primed),
-      bit-below (a .armed),
-      bit-below (a .homed),
-      bit-below (a .range),
-      bit-below (a .index),
+      bit-below (f .primed),
+      bit-below (f .armed),
+      bit-below (f .homed),
+      bit-below (f .range),
+      bit-below (f .index),
       bit-below (getD (a .levels) 0 false),
       bit-below (getD (a .levels) 1 false),
       bit-below (getD (a .levels) 2 false),
     )
 
 -- The row of an axis that a row can hold is four words of 64 bits.
-pub held-words : (a : Axis) → Held a → a .word < 2 ^ 64 → a .turn < 2 ^ 64 → Words (rowOf a)
+pub held-words : (a : Axis) → Held a → a .word < 2 ^ 64 → a .config .turn < 2 ^ 64 → Words (rowOf a)
 held-words a h w t = record {
   w0 = w;
   w1 = join-below layout (fieldsOf a) (within a (h .narrow));
-  w2 = join-below (32 ∷ 32 ∷ []) (a .age ∷ a .period ∷ []) (h .age, (h .period, tt));
+  w2 = join-below (32 ∷ 32 ∷ []) (a .pace .age ∷ a .pace .period ∷ []) (h .age, (h .period, tt));
   w3 = t;
 }
 
@@ -144,26 +137,29 @@ back-flag a h k b e = ap (λ (x : ℕ). eqb x 1) (back a h k ∙ e) ∙ flag-bit
 pub comes-back : (a : Axis) → Held a → axisOf (rowOf a) ≡ a
 comes-back a h =
     let n = h .narrow in
-    let two : split 0 (32 ∷ 32 ∷ []) (word2Of a) ≡ a .age ∷ a .period ∷ [] = split-join (32 ∷ 32 ∷ []) (a .age ∷ a .period ∷ []) (h .age, (h .period, tt)) in
+    let f = a .flags in
+    let pace = a .pace .age ∷ a .pace .period ∷ [] in
+    let two : split 0 (32 ∷ 32 ∷ []) (word2Of a) ≡ pace = split-join (32 ∷ 32 ∷ []) pace (h .age, (h .period, tt)) in
     agree (record {
       word = refl;
-      kind = back a n 0;
-      depth = back a n 1;
-      width = back a n 2;
-      primed = back-flag a n 3 (a .primed) refl;
-      armed = back-flag a n 4 (a .armed) refl;
-      homed = back-flag a n 5 (a .homed) refl;
-      range = back-flag a n 6 (a .range) refl;
-      index = back-flag a n 7 (a .index) refl;
+      config = record { kind = back a n 0; depth = back a n 1; width = back a n 2; turn = refl };
+      flags = record {
+        primed = back-flag a n 3 (f .primed) refl;
+        armed = back-flag a n 4 (f .armed) refl;
+        homed = back-flag a n 5 (f .homed) refl;
+        range = back-flag a n 6 (f .range) refl;
+        index = back-flag a n 7 (f .index) refl;
+      };
       levels =
           (λ j. back-flag a n 8 (getD (a .levels) 0 false) refl j
           ∷ back-flag a n 9 (getD (a .levels) 1 false) refl j
           ∷ back-flag a n 10 (getD (a .levels) 2 false) refl j ∷ [])
-          ∙ three (a .levels) false (h .levels);
-      runs = (λ j. back a n 11 j ∷ back a n 12 j ∷ back a n 13 j ∷ []) ∙ three (a .runs) 0 (h .runs);
+          ∙ three-of (a .levels) false (h .levels);
+      runs = (λ j. back a n 11 j ∷ back a n 12 j ∷ back a n 13 j ∷ []) ∙ three-of (a .runs) 0 (h .runs);
       doubles = back a n 15;
-      direction = back a n 16;
-      age = ap (λ (l : List ℕ). getD l 0 0) two;
-      period = ap (λ (l : List ℕ). getD l 1 0) two;
-      turn = refl;
+      pace = record { direction = back a n 16; age = λ i. getD (two i) 0 0; period = λ i. getD (two i) 1 0 };
     })
+
+-- Two axes that a row can hold are one where they have one row.
+pub same-row : {a b : Axis} → Held a → Held b → rowOf a ≡ rowOf b → a ≡ b
+same-row {a} {b} h k e = sym (comes-back a h) ∙ ap axisOf e ∙ comes-back b k

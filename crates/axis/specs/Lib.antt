@@ -1,4 +1,5 @@
 pub mod Limit
 pub mod Kind
 pub mod Config
+pub mod Flags
 pub mod Row

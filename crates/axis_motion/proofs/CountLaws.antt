@@ -7,18 +7,18 @@ use borrow.Author.Tests.{ltb-true, lt-ltb}
 use lib.Dec.{ltb}
 use lib.IntN.{ℤ, pos, negsuc, _+ℤ_, +ℤ-idr}
 use Rattle.integers.proofs.Balance.{bal-add, eqZ}
-use Rattle.position.specs.Position.{inRange, positionOf}
+use Rattle.position.specs.Position.{inRange, Word, positionOf}
 use Rattle.position.proofs.PositionLaws.{bal-position, range-is, position-in-range}
 use Rattle.axis_decode.specs.Decode.{worth, isE}
-use Rattle.axis_motion.specs.Count.{countedWord, countedRange, countedDoubles, Reach}
+use Rattle.axis_motion.specs.Count.{countedWord, countedRange, countedDoubles}
 use Rattle.axis_decode.specs.declared.Move.{Move}
 use Rattle.axis_decode.specs.declared.Move.the-variants.{Still, Forward, Back, Double}
 
 -- ---- a step that is taken where a test passes, and held where it does not
 
-reach-by : (t : Bool) (w next : ℕ) → Reach w → (t ≡ true → Reach next) → Reach (cond t next w)
-reach-by true w next h step = step refl
-reach-by false w next h step = h
+word-by : (t : Bool) (w next : ℕ) → Word w → (t ≡ true → Word next) → Word (cond t next w)
+word-by true w next h step = step refl
+word-by false w next h step = h
 
 held-by : (t r : Bool) (w next : ℕ) (z : ℤ) → (t ≡ true → inRange z ≡ true) → inRange z ≡ false →
     (cond t next w ≡ w) × (cond t r true ≡ true)
@@ -47,18 +47,18 @@ room-down w h = omega (arith, range-is (positionOf w +ℤ negsuc 0) h, bal-posit
 stays : (w : ℕ) → positionOf w ≡ positionOf w +ℤ pos 0
 stays w = sym (+ℤ-idr (positionOf w))
 
-room-here : (w : ℕ) → Reach w → inRange (positionOf w +ℤ pos 0) ≡ true
-room-here w h = ap inRange (sym (stays w)) ∙ position-in-range w (h .above) (h .below)
+room-here : (w : ℕ) → Word w → inRange (positionOf w +ℤ pos 0) ≡ true
+room-here w h = ap inRange (sym (stays w)) ∙ position-in-range w h
 
 -- ---- the count
 
 -- A count leaves a word that holds a position.
-pub count-reach : (m : Move) (w : ℕ) → Reach w → Reach (countedWord m w)
+pub count-keeps : (m : Move) (w : ℕ) → Word w → Word (countedWord m w)
 unfolding countedWord
-count-reach Still w h = h
-count-reach Double w h = h
-count-reach Forward w h = reach-by (ltb w (2 ^ 63 - 1)) w (w + 1) h (λ t. record { above = omega arith; below = omega (arith, ltb-true) })
-count-reach Back w h = reach-by (ltb 1 w) w (w - 1) h (λ t. record { above = omega (arith, ltb-true); below = omega arith })
+count-keeps Still w h = h
+count-keeps Double w h = h
+count-keeps Forward w h = word-by (ltb w (2 ^ 63 - 1)) w (w + 1) h (λ t. record { above = omega arith; below = omega (arith, ltb-true) })
+count-keeps Back w h = word-by (ltb 1 w) w (w - 1) h (λ t. record { above = omega (arith, ltb-true); below = omega arith })
 
 -- HEADLINE: an entry whose step stays in the range moves the position by what it is worth, and leaves RANGE.
 pub moves : (m : Move) (w : ℕ) (r : Bool) → inRange (positionOf w +ℤ worth m) ≡ true →
@@ -70,18 +70,18 @@ moves Forward w r h = rw (lt-ltb w (2 ^ 63 - 1) (room-up w h)) (up w, refl)
 moves Back w r h = rw (lt-ltb 1 w (room-down w h)) (down w (omega (arith, room-down w h)), refl)
 
 -- HEADLINE: an entry whose step would leave the range holds the position, and sets RANGE.
-pub holds : (m : Move) (w : ℕ) (r : Bool) → Reach w → inRange (positionOf w +ℤ worth m) ≡ false →
+pub holds : (m : Move) (w : ℕ) (r : Bool) → Word w → inRange (positionOf w +ℤ worth m) ≡ false →
     (countedWord m w ≡ w) × (countedRange m w r ≡ true)
 unfolding countedRange countedWord worth
 holds Still w r k h = absurd (true≢false (sym (room-here w k) ∙ h))
 holds Double w r k h = absurd (true≢false (sym (room-here w k) ∙ h))
 holds Forward w r k h =
     held-by (ltb w (2 ^ 63 - 1)) r w (w + 1) (positionOf w +ℤ pos 1)
-    (λ t. ap inRange (sym (up w)) ∙ position-in-range (w + 1) (omega arith) (omega (arith, ltb-true)))
+    (λ t. ap inRange (sym (up w)) ∙ position-in-range (w + 1) (record { above = omega arith; below = omega (arith, ltb-true) }))
     h
 holds Back w r k h =
     held-by (ltb 1 w) r w (w - 1) (positionOf w +ℤ negsuc 0)
-    (λ t. ap inRange (sym (down w (k .above))) ∙ position-in-range (w - 1) (omega (arith, ltb-true)) (omega (arith, k .below)))
+    (λ t. ap inRange (sym (down w (k .above))) ∙ position-in-range (w - 1) (record { above = omega (arith, ltb-true); below = omega (arith, k .below) }))
     h
 
 -- HEADLINE: a count that leaves RANGE clear found it clear, and moves the position by what the entry is worth.

@@ -1,5 +1,5 @@
 -- The count: document 01, "A port sample", Count.
-use Prim.Native.Nat.{ℕ, _+_, _-_, _^_, _<_, min}
+use Prim.Native.Nat.{ℕ, _+_, _-_, _^_, min}
 use mathlib.Core.Bool.{Bool, true, cond}
 use lib.Dec.{ltb}
 use Rattle.axis_decode.specs.Decode.{isE}
@@ -28,8 +28,3 @@ countedBy m w r = record { word = countedWord m w; range = countedRange m w r }
 -- Doubles after an entry: E adds 1, up to 65,535.
 unfoldable pub countedDoubles : Move → ℕ → ℕ
 countedDoubles m n = cond (isE m) (min 65535 (n + 1)) n
-
--- A word that holds a position.
-pub record Reach (w : ℕ) : Type 0 where
-  pub above : 0 < w
-  pub below : w < 2 ^ 63

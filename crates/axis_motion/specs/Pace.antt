@@ -2,9 +2,9 @@
 use Prim.Native.Nat.{ℕ, _+_, _-_, _^_, min}
 use mathlib.Core.Bool.{cond, _&&_}
 use lib.Dec.{eqb, ltb}
+use Rattle.axis.specs.declared.row.Pace.{Pace}
 use Rattle.axis_decode.specs.declared.Move.{Move}
 use Rattle.axis_decode.specs.declared.Move.the-variants.{Still, Forward, Back, Double}
-use Rattle.axis_motion.specs.declared.pace.Pace.{Pace}
 
 -- The age one sample on, at most 2 ^ 32 - 1.
 unfoldable pub older : ℕ → ℕ

@@ -1,6 +1,7 @@
 // Direction, age and period after an entry.
 ghost use mathlib.Core.Path.{_≡_};
 ghost use Rattle.axis_motion.specs.Pace.{older, stepPeriod, pacedBy};
+use axis::row::Pace;
 use axis_decode::Move;
 
 // The directions.
@@ -12,13 +13,6 @@ const BACK: u8 = 2;
 
 // Where age stops.
 const OLDEST: u32 = 0xffff_ffff;
-
-// Direction, age and period.
-pub struct Pace {
-    pub direction: u8,
-    pub age: u32,
-    pub period: u32,
-}
 
 // The age one sample on.
 fn older_by_one(age: u32) -> u32

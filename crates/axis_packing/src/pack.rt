@@ -4,26 +4,33 @@ ghost use Prim.Native.Nat.{_+_, _*_, _<_, _^_};
 ghost use mathlib.Core.Bool.{false};
 ghost use lib.ListN.{getD};
 ghost use Rattle.fields.specs.Field.{bitOf};
-ghost use Rattle.axis.specs.Row.{word1Of, word2Of, rowOf, Narrow};
+ghost use Rattle.axis.specs.Row.{word1Of, word2Of, rowOf, Slim, Narrow};
+use axis::config::Config;
 use axis::row::Axis;
+use axis::row::Flags;
 use axis::row::Row;
 
 // Kind, depth and width: bits 0 to 13.
-fn config_word(kind: u8, depth: u8, width: u8) -> u64
-    requires { ⌜ (kind < 2 ^ 4) × (depth < 2 ^ 4) × (width < 2 ^ 6) ⌝ }
-    ensures { λ w. ⌜ w ≡ kind + depth * 2 ^ 4 + width * 2 ^ 8 ⌝ }
+fn config_word(c: Config) -> u64
+    requires { ⌜ Slim c ⌝ }
+    ensures { λ w. ⌜ w ≡ c .kind + c .depth * 2 ^ 4 + c .width * 2 ^ 8 ⌝ }
 {
-    fields::put(fields::put(kind as u64, 4, depth as u64), 8, width as u64)
+    fields::put(
+        fields::put(c.kind as u64, 4, c.depth as u64),
+        8,
+        c.width as u64,
+    )
 }
 
 // The five flags, from bit 0 on.
-fn flags_word(a: Axis) -> u64
-    ensures { λ w. ⌜ (w ≡ bitOf (a .primed) + bitOf (a .armed) * 2 ^ 1 + bitOf (a .homed) * 2 ^ 2 + bitOf (a .range) * 2 ^ 3 + bitOf (a .index) * 2 ^ 4) × (w < 2 ^ 5) ⌝ }
+fn flags_word(f: Flags) -> u64
+    ensures { λ w. ⌜ (w ≡ bitOf (f .primed) + bitOf (f .armed) * 2 ^ 1 + bitOf (f .homed) * 2 ^ 2
+        + bitOf (f .range) * 2 ^ 3 + bitOf (f .index) * 2 ^ 4) × (w < 2 ^ 5) ⌝ }
 {
-    let low2 = fields::put(fields::bit(a.primed), 1, fields::bit(a.armed));
-    let low3 = fields::put(low2, 2, fields::bit(a.homed));
-    let low4 = fields::put(low3, 3, fields::bit(a.range));
-    fields::put(low4, 4, fields::bit(a.index))
+    let low2 = fields::put(fields::bit(f.primed), 1, fields::bit(f.armed));
+    let low3 = fields::put(low2, 2, fields::bit(f.homed));
+    let low4 = fields::put(low3, 3, fields::bit(f.range));
+    fields::put(low4, 4, fields::bit(f.index))
 }
 
 // The three filtered levels, from bit 0 on.
@@ -49,19 +56,19 @@ fn word1(a: Axis) -> u64
 {
     let levels = a.levels;
     let runs = a.runs;
-    let low14 = config_word(a.kind, a.depth, a.width);
-    let low19 = fields::put(low14, 14, flags_word(a));
+    let low14 = config_word(a.config);
+    let low19 = fields::put(low14, 14, flags_word(a.flags));
     let low22 = fields::put(low19, 19, levels_word(levels));
     let low31 = fields::put(low22, 22, runs_word(runs));
     let low48 = fields::put(low31, 32, a.doubles as u64);
-    fields::put(low48, 48, a.direction as u64)
+    fields::put(low48, 48, a.pace.direction as u64)
 }
 
 // Word 2: age, then period.
 fn word2(a: Axis) -> u64
     ensures { λ w. ⌜ w ≡ word2Of a ⌝ }
 {
-    fields::put(a.age as u64, 32, a.period as u64)
+    fields::put(a.pace.age as u64, 32, a.pace.period as u64)
 }
 
 // The row of an axis whose fields are within their widths.
@@ -73,6 +80,6 @@ pub fn pack(a: Axis) -> Row
         w0: a.word,
         w1: word1(a),
         w2: word2(a),
-        w3: a.turn as u64,
+        w3: a.config.turn as u64,
     }
 }

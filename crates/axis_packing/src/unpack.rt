@@ -3,32 +3,17 @@ ghost use mathlib.Core.Path.{_≡_};
 ghost use Prim.Native.Nat.{_<_, _^_};
 ghost use mathlib.Core.List.{[], _∷_};
 ghost use Rattle.fields.specs.Field.{fieldOf, flagOf};
-ghost use Rattle.axis.specs.Row.{axisOf};
+ghost use Rattle.axis.specs.Row.{configIn, flagsIn, paceIn, axisOf, SameConfig, SameFlags, SamePace};
 use axis::config::Config;
 use axis::row::Axis;
+use axis::row::Flags;
+use axis::row::Pace;
 use axis::row::Row;
-
-// The five flags of word 1.
-struct Flags {
-    primed: bool,
-    armed: bool,
-    homed: bool,
-    range: bool,
-    index: bool,
-}
-
-// What words 1 and 2 say of the motion so far.
-struct Pace {
-    doubles: u16,
-    direction: u8,
-    age: u32,
-    period: u32,
-}
 
 // The configuration: bits 0 to 13 of word 1, and word 3.
 fn config_of(r: Row) -> Config
     requires { ⌜ r .w3 < 2 ^ 32 ⌝ }
-    ensures { λ c. ⌜ (c .kind ≡ fieldOf 0 4 (r .w1)) × (c .depth ≡ fieldOf 4 4 (r .w1)) × (c .width ≡ fieldOf 8 6 (r .w1)) × (c .turn ≡ r .w3) ⌝ }
+    ensures { λ c. ⌜ SameConfig c (configIn r) ⌝ }
 {
     Config {
         kind: fields::byte(r.w1, 0, 4),
@@ -40,7 +25,7 @@ fn config_of(r: Row) -> Config
 
 // Bits 14 to 18.
 fn flags_of(w: u64) -> Flags
-    ensures { λ f. ⌜ (f .primed ≡ flagOf 14 w) × (f .armed ≡ flagOf 15 w) × (f .homed ≡ flagOf 16 w) × (f .range ≡ flagOf 17 w) × (f .index ≡ flagOf 18 w) ⌝ }
+    ensures { λ f. ⌜ SameFlags f (flagsIn w) ⌝ }
 {
     Flags {
         primed: fields::flag(w, 14),
@@ -73,12 +58,11 @@ fn runs_of(w: u64) -> [u8; 3]
     ]
 }
 
-// Bits 32 to 49 of word 1, and word 2.
+// Bits 48 and 49 of word 1, and word 2.
 fn pace_of(r: Row) -> Pace
-    ensures { λ p. ⌜ (p .doubles ≡ fieldOf 32 16 (r .w1)) × (p .direction ≡ fieldOf 48 2 (r .w1)) × (p .age ≡ fieldOf 0 32 (r .w2)) × (p .period ≡ fieldOf 32 32 (r .w2)) ⌝ }
+    ensures { λ p. ⌜ SamePace p (paceIn r) ⌝ }
 {
     Pace {
-        doubles: fields::field(r.w1, 32, 16) as u16,
         direction: fields::byte(r.w1, 48, 2),
         age: fields::field(r.w2, 0, 32) as u32,
         period: fields::field(r.w2, 32, 32) as u32,
@@ -97,20 +81,11 @@ pub fn unpack(r: Row) -> Axis
     let pace = pace_of(r);
     Axis {
         word: r.w0,
-        kind: config.kind,
-        depth: config.depth,
-        width: config.width,
-        primed: flags.primed,
-        armed: flags.armed,
-        homed: flags.homed,
-        range: flags.range,
-        index: flags.index,
-        levels: levels,
-        runs: runs,
-        doubles: pace.doubles,
-        direction: pace.direction,
-        age: pace.age,
-        period: pace.period,
-        turn: config.turn,
+        config,
+        flags,
+        levels,
+        runs,
+        doubles: fields::field(r.w1, 32, 16) as u16,
+        pace,
     }
 }

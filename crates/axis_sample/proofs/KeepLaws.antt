@@ -4,21 +4,24 @@ use mathlib.Core.Path.{_≡_, refl, sym}
 use mathlib.Core.Bool.{Bool, true, false, cond, not, _&&_, _||_, true≢false}
 use lib.Dec.{ltb, lit<}
 use borrow.Author.Tests.{ltb-true}
+use Rattle.position.specs.Position.{Word}
 use Rattle.axis.specs.declared.row.Axis.{Axis}
-use Rattle.axis_sound.specs.Sound.{SampledAxis}
+use Rattle.axis.specs.declared.row.Pace.{Pace}
+use Rattle.axis_sound.specs.Sound.{SoundPace, SampledAxis}
 use Rattle.axis_filter.specs.Lines.{A, B, Z, levelOf}
 use Rattle.axis_filter.specs.Filter.{Short}
-use Rattle.axis_motion.specs.Count.{Reach}
+use Rattle.axis_decode.specs.declared.Move.{Move}
+use Rattle.axis_motion.specs.Pace.{pacedBy}
 use Rattle.axis_motion.specs.Index.{offTurn}
 use Rattle.axis_sample.specs.Lines.{placeOf, line, linesOf, filtered, moveTo, rises}
 use Rattle.axis_sample.specs.Step.{primedBy, settle, advanced, outcome, stepAxis}
 use Rattle.axis_filter.specs.declared.Raw.{Raw}
 use Rattle.axis_filter.proofs.FilterLaws.{filter-short}
-use Rattle.axis_motion.proofs.CountLaws.{count-reach, doubles-below}
+use Rattle.axis_motion.proofs.CountLaws.{count-keeps, doubles-below}
 use Rattle.axis_motion.proofs.PaceLaws.{direction-below, age-below, period-below, resting}
 
 -- The runs of a sampled axis are short.
-pub sampled-short : {x : Axis} → SampledAxis x → Short (x .depth) (linesOf x)
+pub sampled-short : {x : Axis} → SampledAxis x → Short (x .config .depth) (linesOf x)
 sampled-short g = record { runA = g .runA; runB = g .runB; runZ = g .runZ }
 
 -- ARMED and HOMED stay apart: homing clears the one as it sets the other.
@@ -38,35 +41,38 @@ index-step false true turn o h e = go (ltb 0 turn) refl e
     go false p e = absurd (true≢false (sym e))
 index-step false false turn o h e = absurd (true≢false (sym e))
 
-home-reach : (b : Bool) {w : ℕ} → Reach w → Reach (cond b (2 ^ 62) w)
-home-reach true h = record { above = lit< tt; below = lit< tt }
-home-reach false h = h
+-- Homing leaves a word that holds a position.
+home-word : (b : Bool) {w : ℕ} → Word w → Word (cond b (2 ^ 62) w)
+home-word true h = record { above = lit< tt; below = lit< tt }
+home-word false h = h
+
+-- A sound pace is one after an entry.
+pace-kept : (m : Move) (p : Pace) → SoundPace p → SoundPace (pacedBy m p)
+pace-kept m p s = record {
+  direction = direction-below m (p .direction) (s .direction);
+  period = period-below m (p .direction) (p .age) (p .period) (s .period);
+  resting = resting m (p .direction) (p .age) (p .period) (s .resting);
+  age = age-below m (p .age);
+}
 
 keep-advance : (x : Axis) (s : Raw) → SampledAxis x → SampledAxis (advanced x s)
 unfolding settle filtered line placeOf offTurn
 keep-advance x s g =
     let n = filtered x s in
     let m = moveTo x n in
-    let reach = home-reach (x .armed && rises x n) (count-reach m (x .word) (record { above = g .above; below = g .below })) in
+    let d = x .config .depth in
+    let f = x .flags in
     record {
-      above = reach .above;
-      below = reach .below;
-      kind = g .kind;
-      shallow = g .shallow;
-      deep = g .deep;
-      width = g .width;
-      runA = filter-short (x .depth) (line x A) (levelOf s A) (g .runA);
-      runB = filter-short (x .depth) (line x B) (levelOf s B) (g .runB);
-      runZ = filter-short (x .depth) (line x Z) (levelOf s Z) (g .runZ);
-      apart = apart-step (x .armed) (x .homed) (rises x n) (g .apart);
-      direction = direction-below m (x .direction) (g .direction);
-      period = period-below m (x .direction) (x .age) (x .period) (g .period);
-      resting = resting m (x .direction) (x .age) (x .period) (g .resting);
-      index = index-step (x .index) (rises x n && not (x .armed) && x .homed) (x .turn) _ (g .index);
+      word = home-word (f .armed && rises x n) (count-keeps m (x .word) (g .word));
+      config = g .config;
+      runA = filter-short d (line x A) (levelOf s A) (g .runA);
+      runB = filter-short d (line x B) (levelOf s B) (g .runB);
+      runZ = filter-short d (line x Z) (levelOf s Z) (g .runZ);
+      apart = apart-step (f .armed) (f .homed) (rises x n) (g .apart);
+      pace = pace-kept m (x .pace) (g .pace);
+      index = index-step (f .index) (rises x n && not (f .armed) && f .homed) (x .config .turn) _ (g .index);
       unprimed = λ e. absurd (true≢false e);
       doubles = doubles-below m (x .doubles) (g .doubles);
-      age = age-below m (x .age);
-      turn = g .turn;
       levels = refl;
       runs = refl;
     }
@@ -74,24 +80,16 @@ keep-advance x s g =
 keep-prime : (x : Axis) (s : Raw) → SampledAxis x → SampledAxis (primedBy x s)
 unfolding primedBy
 keep-prime x s g = record {
-  above = g .above;
-  below = g .below;
-  kind = g .kind;
-  shallow = g .shallow;
-  deep = g .deep;
-  width = g .width;
-  runA = g .shallow;
-  runB = g .shallow;
-  runZ = g .shallow;
+  word = g .word;
+  config = g .config;
+  runA = g .config .shallow;
+  runB = g .config .shallow;
+  runZ = g .config .shallow;
   apart = g .apart;
-  direction = g .direction;
-  period = g .period;
-  resting = g .resting;
+  pace = g .pace;
   index = g .index;
   unprimed = λ e. absurd (true≢false e);
   doubles = g .doubles;
-  age = g .age;
-  turn = g .turn;
   levels = refl;
   runs = refl;
 }
@@ -99,7 +97,7 @@ keep-prime x s g = record {
 -- HEADLINE: a sampled axis is a sampled axis after a sample.
 pub keep-step : (x : Axis) (s : Raw) → SampledAxis x → SampledAxis (stepAxis x s .axis)
 unfolding stepAxis outcome
-keep-step x s g = go (x .primed)
+keep-step x s g = go (x .flags .primed)
   where
     go : (b : Bool) → SampledAxis (outcome b x s .axis)
     go true = keep-advance x s g

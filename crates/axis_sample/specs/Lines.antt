@@ -32,11 +32,11 @@ line x w = lineIn x (placeOf w)
 
 -- The filtered lines of an axis after a sample.
 unfoldable pub filtered : Axis → Raw → Wire → Line
-filtered x s w = filterLine (x .depth) (line x w) (levelOf s w)
+filtered x s w = filterLine (x .config .depth) (line x w) (levelOf s w)
 
 -- The entry of an axis whose filtered lines become n.
 unfoldable pub moveTo : Axis → (Wire → Line) → Move
-moveTo x n = entry (x .kind) (code (line x A .level) (line x B .level)) (code (n A .level) (n B .level))
+moveTo x n = entry (x .config .kind) (code (line x A .level) (line x B .level)) (code (n A .level) (n B .level))
 
 -- Filtered Z goes from 0 to 1 where the lines of an axis become n.
 unfoldable pub rises : Axis → (Wire → Line) → Bool

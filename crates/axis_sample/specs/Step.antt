@@ -3,6 +3,7 @@ use Prim.Native.Nat.{ℕ, _^_}
 use mathlib.Core.Bool.{Bool, true, false, cond, not, _&&_, _||_}
 use mathlib.Core.List.{[], _∷_}
 use Rattle.position.specs.Position.{positionOf}
+use Rattle.axis.specs.Flags.{withPrimed}
 use Rattle.axis.specs.Row.{axisOf, rowOf}
 use Rattle.axis_sound.specs.Sound.{statusOf}
 use Rattle.axis.specs.declared.row.Axis.{Axis}
@@ -12,7 +13,7 @@ use Rattle.axis_sound.specs.declared.Status.the-variants.{Empty, Sampled, Count
 use Rattle.axis_filter.specs.Lines.{Wire, A, B, Z, rawOf}
 use Rattle.axis_decode.specs.Decode.{isE}
 use Rattle.axis_motion.specs.Count.{countedWord, countedRange, countedDoubles}
-use Rattle.axis_motion.specs.Pace.{pacedDirection, pacedAge, pacedPeriod}
+use Rattle.axis_motion.specs.Pace.{pacedBy}
 use Rattle.axis_motion.specs.Index.{offTurn}
 use Rattle.axis_sample.specs.Lines.{filtered, moveTo, rises}
 use Rattle.axis_decode.specs.declared.Move.{Move}
@@ -25,21 +26,12 @@ use Rattle.axis_sample.specs.declared.step.SteppedRow.{SteppedRow}
 unfoldable pub primedBy : Axis → Raw → Axis
 primedBy x s = record {
   word = x .word;
-  kind = x .kind;
-  depth = x .depth;
-  width = x .width;
-  primed = true;
-  armed = x .armed;
-  homed = x .homed;
-  range = x .range;
-  index = x .index;
+  config = x .config;
+  flags = withPrimed true (x .flags);
   levels = s .a ∷ s .b ∷ s .z ∷ [];
   runs = 0 ∷ 0 ∷ 0 ∷ [];
   doubles = x .doubles;
-  direction = x .direction;
-  age = x .age;
-  period = x .period;
-  turn = x .turn;
+  pace = x .pace;
 }
 
 -- A primed axis whose lines become n: decode, count, age and period, then home or check where Z rose.
@@ -47,24 +39,22 @@ unfoldable pub settle : Axis → (Wire → Line) → Axis
 settle x n =
     let m = moveTo x n in
     let w = countedWord m (x .word) in
-    let homes = x .armed && rises x n in
+    let f = x .flags in
+    let homes = f .armed && rises x n in
     record {
       word = cond homes (2 ^ 62) w;
-      kind = x .kind;
-      depth = x .depth;
-      width = x .width;
-      primed = true;
-      armed = x .armed && not (rises x n);
-      homed = x .homed || homes;
-      range = countedRange m (x .word) (x .range) && not homes;
-      index = x .index || (rises x n && not (x .armed) && x .homed && offTurn (x .turn) (positionOf w));
+      config = x .config;
+      flags = record {
+        primed = true;
+        armed = f .armed && not (rises x n);
+        homed = f .homed || homes;
+        range = countedRange m (x .word) (f .range) && not homes;
+        index = f .index || (rises x n && not (f .armed) && f .homed && offTurn (x .config .turn) (positionOf w));
+      };
       levels = n A .level ∷ n B .level ∷ n Z .level ∷ [];
       runs = n A .run ∷ n B .run ∷ n Z .run ∷ [];
       doubles = countedDoubles m (x .doubles);
-      direction = pacedDirection m (x .direction);
-      age = pacedAge m (x .age);
-      period = pacedPeriod m (x .direction) (x .age) (x .period);
-      turn = x .turn;
+      pace = pacedBy m (x .pace);
     }
 
 -- The entry of a sample on a primed axis.
@@ -77,7 +67,7 @@ zRose x s = rises x (filtered x s)
 
 -- Whether a sample on a primed axis homes it.
 abbrev pub homes : Axis → Raw → Bool
-homes x s = x .armed && zRose x s
+homes x s = x .flags .armed && zRose x s
 
 -- A primed axis after a sample.
 abbrev pub advanced : Axis → Raw → Axis
@@ -90,7 +80,7 @@ outcome false x s = record { axis = primedBy x s; double = false; index = false 
 
 -- A sample on an axis.
 unfoldable pub stepAxis : Axis → Raw → Stepped
-stepAxis x s = outcome (x .primed) x s
+stepAxis x s = outcome (x .flags .primed) x s
 
 -- An axis after a sample as its row, with its bits of the answer.
 abbrev pub packed : Stepped → SteppedRow

@@ -7,6 +7,7 @@ ghost use Rattle.axis_filter.specs.Filter.{Short};
 ghost use Rattle.axis_sample.specs.Lines.{linesOf, moveTo, rises};
 ghost use Rattle.axis_sample.specs.Step.{settle, outcome, stepAxis, packed, kept, stepRow};
 use axis::row::Axis;
+use axis::row::Flags;
 use axis::row::Row;
 use axis_decode::Move;
 use axis_decode::is_double;
@@ -21,7 +22,6 @@ use axis_motion::count::count_doubles;
 use axis_motion::index::check;
 use axis_motion::index::home;
 use axis_motion::index::z_rises;
-use axis_motion::pace::Pace;
 use axis_motion::pace::paced;
 use axis_packing::pack::pack;
 use axis_sound::axis_in;
@@ -48,7 +48,7 @@ fn prime(x: Axis, s: Raw) -> Stepped
     ensures { λ r. ⌜ r ≡ outcome false x s ⌝ }
 {
     let mut axis = x;
-    axis.primed = true;
+    axis.flags.primed = true;
     axis.levels = [s.a, s.b, s.z];
     axis.runs = [0, 0, 0];
     Stepped {
@@ -63,34 +63,28 @@ fn settled(x: Axis, n: Lines, m: Move, rose: bool) -> Axis
     requires { ⌜ (m ≡ moveTo x (three n)) × (rose ≡ rises x (three n)) ⌝ }
     ensures { λ r. ⌜ r ≡ settle x (three n) ⌝ }
 {
-    let a = n.a;
-    let b = n.b;
-    let z = n.z;
-    let counted = count(m, x.word, x.range);
-    let pace = paced(
-        m,
-        Pace {
-            direction: x.direction,
-            age: x.age,
-            period: x.period,
-        },
-    );
-    let homes = x.armed & rose;
-    let checks = rose & !x.armed & x.homed;
-    let mut y = x;
-    y.word = home(homes, counted.word);
-    y.primed = true;
-    y.armed = x.armed & !rose;
-    y.homed = x.homed | homes;
-    y.range = counted.range & !homes;
-    y.index = check(x.index, checks, x.turn, counted.word);
-    y.levels = [a.level, b.level, z.level];
-    y.runs = [a.run, b.run, z.run];
-    y.doubles = count_doubles(m, x.doubles);
-    y.direction = pace.direction;
-    y.age = pace.age;
-    y.period = pace.period;
-    y
+    let config = x.config;
+    let was = x.flags;
+    let counted = count(m, x.word, was.range);
+    let homes = was.armed & rose;
+    let checks = rose & !was.armed & was.homed;
+    let flags = Flags {
+        primed: true,
+        armed: was.armed & !rose,
+        homed: was.homed | homes,
+        range: counted.range & !homes,
+        index: check(was.index, checks, config.turn, counted.word),
+    };
+    let pace = paced(m, x.pace);
+    Axis {
+        word: home(homes, counted.word),
+        config,
+        flags,
+        levels: [n.a.level, n.b.level, n.z.level],
+        runs: [n.a.run, n.b.run, n.z.run],
+        doubles: count_doubles(m, x.doubles),
+        pace,
+    }
 }
 
 // The three lines of an axis.
@@ -116,12 +110,12 @@ fn lines_of(x: Axis) -> Lines
 
 // A primed axis after a sample.
 fn advance(x: Axis, s: Raw) -> Stepped
-    requires { ⌜ Short (x .depth) (linesOf x) ⌝ }
+    requires { ⌜ Short (x .config .depth) (linesOf x) ⌝ }
     ensures { λ r. ⌜ r ≡ outcome true x s ⌝ }
 {
     let levels = x.levels;
-    let n = filter(x.depth, lines_of(x), s);
-    let m = move_between(x.kind, levels[0], levels[1], n.a.level, n.b.level);
+    let n = filter(x.config.depth, lines_of(x), s);
+    let m = move_between(x.config.kind, levels[0], levels[1], n.a.level, n.b.level);
     let rose = z_rises(levels[2], n.z.level);
     Stepped {
         axis: settled(x, n, m, rose),
@@ -132,10 +126,10 @@ fn advance(x: Axis, s: Raw) -> Stepped
 
 // An axis after a sample.
 pub fn step_axis(x: Axis, s: Raw) -> Stepped
-    requires { ⌜ Short (x .depth) (linesOf x) ⌝ }
+    requires { ⌜ Short (x .config .depth) (linesOf x) ⌝ }
     ensures { λ r. ⌜ r ≡ stepAxis x s ⌝ }
 {
-    if x.primed {
+    if x.flags.primed {
         return advance(x, s);
     }
     prime(x, s)

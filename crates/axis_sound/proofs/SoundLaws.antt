@@ -3,10 +3,10 @@ use Prim.Native.Nat.{ℕ, _+_, _^_, _<_, _≤_}
 use native.Mathlib.Omega.{arith}
 use mathlib.Core.Path.{_≡_, refl, sym, ap, subst, _∙_}
 use mathlib.Core.Logic.{_↔_, _⊎_, inl, inr, ⊎-elim}
-use mathlib.Core.Bool.{Bool, true, false, cond, not, _&&_, _||_, true≢false}
-use mathlib.Core.List.{[], _∷_}
+use mathlib.Core.Bool.{Bool, true, false, cond, not, _&&_, _||_, and-false, true≢false}
 use lib.Dec.{eqb, lit<}
-use borrow.Author.Tests.{eqb-true, not-true, ne-eqb, le-leb, lt-ltb}
+use borrow.Author.Tests.{eqb-true, not-true, ne-eqb, le-leb}
+use Rattle.position.specs.Position.{Word}
 use Rattle.fields.specs.Field.{fieldOf, flagOf}
 use Rattle.fields.proofs.BitLaws.{part-zero}
 use Rattle.axis.specs.declared.config.Config.{Config}
@@ -16,38 +16,33 @@ use Rattle.axis_sound.specs.declared.Opened.{Opened}
 use Rattle.axis_sound.specs.declared.Status.{Status}
 use Rattle.axis_sound.specs.declared.Status.the-variants.{Empty, Sampled, Counter, Broken}
 use Rattle.axis.specs.Kind.{X1, X2, X4, COUNTER, sampledKind}
-use Rattle.axis.specs.Config.{sampledConfig, counterConfig, goodConfig}
-use Rattle.axis.specs.Row.{axisOf, rowOf, word1Of, word2Of, emptyRow, freshAt, blank, Narrow, Held, Words}
-use Rattle.axis_sound.specs.Sound.{isEmpty, isPlain, isConsistent, isSampled, isCounter, statusOf, lowRow, passes, SampledAxis, counterOf, CounterAxis}
-use Rattle.axis.proofs.RowLaws.{agree, row-held, fresh-held, row-again, back, comes-back}
+use Rattle.axis.specs.Config.{sampledConfig, counterConfig, goodConfig, SampledSetting, CounterSetting}
+use Rattle.axis.specs.Row.{configIn, axisOf, rowOf, word1Of, word2Of, emptyRow, waiting, freshAt, blank, Slim, Narrow, Held, Words}
+use Rattle.axis_sound.specs.Sound.{isEmpty, isPlain, isConsistent, isSampled, isCounter, statusOf, lowRow, passes}
+use Rattle.axis_sound.specs.Sound.{SampledAxis, counterOf, CounterAxis}
+use Rattle.axis.proofs.RowLaws.{same-config, row-held, waiting-held, row-again, back, comes-back}
 use Rattle.axis.proofs.TestLaws.{both, refuted}
-use Rattle.axis.proofs.ConfigLaws.{sampled-setting, CounterSetting, counter-setting}
-use Rattle.axis_sound.proofs.PassLaws.{Plain, plain, plain-from, low-same, sampled-axis, sampled-config, sampled-consistent}
+use Rattle.axis.proofs.ConfigLaws.{sampled-setting, sampled-passes, counter-setting}
+use Rattle.axis_sound.proofs.PassLaws.{Plain, plain, plain-from, low-same, bare-waits, sampled-axis, sampled-consistent}
 
 -- The parts of the test of a sampled row.
-sampled-parts : (r : Row) → isSampled r ≡ true →
-    Plain r × (sampledConfig (fieldOf 0 4 (r .w1)) (fieldOf 4 4 (r .w1)) (fieldOf 8 6 (r .w1)) (r .w3) ≡ true) × (isConsistent (axisOf r) ≡ true)
+sampled-parts : (r : Row) → isSampled r ≡ true → Plain r × SampledSetting (configIn r) × (isConsistent (axisOf r) ≡ true)
 sampled-parts r e =
     let h2 = both _ (isConsistent (axisOf r)) e in
     let h1 = both (isPlain r) _ (h2 .0) in
-    (plain r (h1 .0), h1 .1, h2 .1)
+    (plain r (h1 .0), sampled-setting (configIn r) (h1 .1), h2 .1)
 
 -- The parts of the test of a counter row.
-counter-parts : (r : Row) → isCounter r ≡ true →
-    Plain r × CounterSetting (fieldOf 0 4 (r .w1)) (fieldOf 4 4 (r .w1)) (fieldOf 8 6 (r .w1)) (r .w3) × (fieldOf 14 50 (r .w1) ≡ 0) × (r .w2 ≡ 0)
+counter-parts : (r : Row) → isCounter r ≡ true → Plain r × CounterSetting (configIn r) × (fieldOf 14 50 (r .w1) ≡ 0) × (r .w2 ≡ 0)
 counter-parts r e =
     let h3 = both _ (eqb (r .w2) 0) e in
     let h2 = both _ (eqb (fieldOf 14 50 (r .w1)) 0) (h3 .0) in
-    let h1 = both (isPlain r) _ (h2 .0) in (
-      plain r (h1 .0),
-      counter-setting (fieldOf 0 4 (r .w1)) (fieldOf 4 4 (r .w1)) (fieldOf 8 6 (r .w1)) (r .w3) (h1 .1),
-      eqb-true (fieldOf 14 50 (r .w1)) 0 (h2 .1),
-      eqb-true (r .w2) 0 (h3 .1),
-    )
+    let h1 = both (isPlain r) _ (h2 .0) in
+    (plain r (h1 .0), counter-setting (configIn r) (h1 .1), eqb-true (fieldOf 14 50 (r .w1)) 0 (h2 .1), eqb-true (r .w2) 0 (h3 .1))
 
 -- A row with a position is not empty.
 plain-full : (r : Row) → Plain r → isEmpty r ≡ false
-plain-full r p = rw (ne-eqb (r .w0) 0 (λ e. let no : ⊥ = omega (arith, p .above) in no))
+plain-full r p = rw (ne-eqb (r .w0) 0 (λ e. let no : ⊥ = omega (arith, p .word) in no))
 
 -- A counter's kind is no sampled one.
 counter-kind : (k : ℕ) → k ≡ COUNTER → sampledKind k ≡ false
@@ -56,11 +51,8 @@ counter-kind k e = rw e
 -- A counter row is no sampled one.
 counter-unsampled : (r : Row) → isCounter r ≡ true → isSampled r ≡ false
 counter-unsampled r e =
-    let kind = fieldOf 0 4 (r .w1) in
     refuted (isSampled r)
-    (λ s. true≢false
-    (sym (sampled-setting kind (fieldOf 4 4 (r .w1)) (fieldOf 8 6 (r .w1)) (r .w3) (sampled-parts r s .1) .kind)
-    ∙ counter-kind kind (counter-parts r e .1 .kind)))
+    (λ s. true≢false (sym (sampled-parts r s .1 .kind) ∙ counter-kind (fieldOf 0 4 (r .w1)) (counter-parts r e .1 .kind)))
 
 -- A row passes the test of its status.
 status-passes : (r : Row) → passes (statusOf r) r ≡ true
@@ -112,82 +104,88 @@ kind-below k e = go (eqb k X1) (eqb k X2) (eqb k X4) refl refl refl e
     go false false true a b c h = omega (arith, eqb-true)
     go false false false a b c h = absurd (true≢false (sym h))
 
+-- The configuration of a sampled axis is within its fields.
+setting-slim : {c : Config} → SampledSetting c → Slim c
+setting-slim {c} s = record { kind = kind-below (c .kind) (s .kind); depth = omega (arith, s .deep); width = omega (arith, s .width) }
+
 -- A row can hold a sampled axis.
 pub sampled-held : {a : Axis} → SampledAxis a → Held a
-sampled-held {a} s = record {
-  narrow = record {
-    kind = kind-below (a .kind) (s .kind);
-    depth = omega (arith, s .deep);
-    width = omega (arith, s .width);
-    runA = omega (arith, s .runA, s .deep);
-    runB = omega (arith, s .runB, s .deep);
-    runZ = omega (arith, s .runZ, s .deep);
-    doubles = s .doubles;
-    direction = omega (arith, s .direction);
-  };
-  age = s .age;
-  period = omega (arith, s .period);
-  levels = s .levels;
-  runs = s .runs;
-}
+sampled-held {a} s =
+    let c = s .config in
+    record {
+      narrow = record {
+        config = setting-slim c;
+        runA = omega (arith, s .runA, c .deep);
+        runB = omega (arith, s .runB, c .deep);
+        runZ = omega (arith, s .runZ, c .deep);
+        doubles = s .doubles;
+        direction = omega (arith, s .pace .direction);
+      };
+      age = s .pace .age;
+      period = omega (arith, s .pace .period);
+      levels = s .levels;
+      runs = s .runs;
+    }
 
 -- A row can hold a counter.
 pub counter-held : {a : Axis} → CounterAxis a → Held a
 counter-held {a} c =
-    subst Held (sym (c .rest)) (fresh-held (counterOf (a .width)) (a .word) (lit< tt) (lit< tt) (omega (arith, c .wide)))
+    let slim : Slim (counterOf (a .config .width)) = record { kind = lit< tt; depth = lit< tt; width = omega (arith, c .wide) } in
+    subst Held (sym (c .rest)) (waiting-held slim (a .word) false)
 
 -- The numbers of a counter are a counter's configuration.
-pub counter-config : {a : Axis} → CounterAxis a → counterConfig (a .kind) (a .depth) (a .width) (a .turn) ≡ true
+pub counter-config : {a : Axis} → CounterAxis a → let c = a .config in counterConfig (c .kind) (c .depth) (c .width) (c .turn) ≡ true
 counter-config {a} c =
-    ap (λ (b : Axis). counterConfig (b .kind) (b .depth) (a .width) (b .turn)) (c .rest)
-    ∙ rw (le-leb 2 (a .width) (c .narrow), le-leb (a .width) 32 (c .wide))
+    let v = a .config .width in
+    ap (λ (b : Axis). counterConfig (b .config .kind) (b .config .depth) v (b .config .turn)) (c .rest)
+    ∙ rw (le-leb 2 v (c .narrow), le-leb v 32 (c .wide))
 
 -- The row of an axis that a row can hold has 0 in the bits without a name.
-held-plain : (a : Axis) → Held a → 1 ≤ a .word → a .word < 2 ^ 63 → a .turn < 2 ^ 32 → isPlain (rowOf a) ≡ true
-held-plain a h above below turn =
-    plain-from (rowOf a) (record { above = above; below = below; low = back a (h .narrow) 14; high = back a (h .narrow) 17; turn = turn })
+held-plain : (a : Axis) → Held a → Word (a .word) → a .config .turn < 2 ^ 32 → isPlain (rowOf a) ≡ true
+held-plain a h word turn = plain-from (rowOf a) (record { word = word; low = back a (h .narrow) 14; high = back a (h .narrow) 17; turn = turn })
 
 -- A configuration is a sampled one or a counter's.
-pub good-cases : (k d v n : ℕ) → goodConfig k d v n ≡ true → (sampledConfig k d v n ≡ true) ⊎ (counterConfig k d v n ≡ true)
+pub good-cases : (c : Config) → goodConfig (c .kind) (c .depth) (c .width) (c .turn) ≡ true → SampledSetting c ⊎ CounterSetting c
 unfolding goodConfig
-good-cases k d v n e = go (sampledConfig k d v n) refl e
+good-cases c e = go (sampledConfig (c .kind) (c .depth) (c .width) (c .turn)) refl e
   where
-    go : (b : Bool) → sampledConfig k d v n ≡ b → b || counterConfig k d v n ≡ true → (sampledConfig k d v n ≡ true) ⊎ (counterConfig k d v n ≡ true)
-    go true h e = inl h
-    go false h e = inr e
-
--- A row can hold what setup makes of a sampled configuration.
-setting-held : (c : Config) (w : ℕ) → sampledConfig (c .kind) (c .depth) (c .width) (c .turn) ≡ true → Held (freshAt c w)
-setting-held c w e =
-    let s = sampled-setting (c .kind) (c .depth) (c .width) (c .turn) e in
-    fresh-held c w (kind-below (c .kind) (s .kind)) (omega (arith, s .deep)) (omega (arith, s .width))
+    go : (b : Bool) → sampledConfig (c .kind) (c .depth) (c .width) (c .turn) ≡ b →
+        b || counterConfig (c .kind) (c .depth) (c .width) (c .turn) ≡ true → SampledSetting c ⊎ CounterSetting c
+    go true h e = inl (sampled-setting c h)
+    go false h e = inr (counter-setting c e)
 
 -- A row can hold what setup makes of any configuration.
 pub setup-held : (c : Config) (w : ℕ) → goodConfig (c .kind) (c .depth) (c .width) (c .turn) ≡ true → Held (freshAt c w)
-setup-held c w e =
-    ⊎-elim
-    (setting-held c w)
-    (λ h. let s = counter-setting (c .kind) (c .depth) (c .width) (c .turn) h in
-    fresh-held c w (omega (arith, s .kind)) (omega (arith, s .depth)) (omega (arith, s .wide)))
-    (good-cases (c .kind) (c .depth) (c .width) (c .turn) e)
+setup-held c w e = waiting-held (⊎-elim setting-slim slim (good-cases c e)) w false
+  where
+    slim : CounterSetting c → Slim c
+    slim s = record { kind = omega (arith, s .kind); depth = omega (arith, s .depth); width = omega (arith, s .wide) }
 
--- What setup makes of a sampled configuration, at any position, is a sampled axis.
-pub setup-sampled : (c : Config) (w : ℕ) → 1 ≤ w → w < 2 ^ 63 → sampledConfig (c .kind) (c .depth) (c .width) (c .turn) ≡ true → SampledAxis (freshAt c w)
-setup-sampled c w above below e =
-    let s = sampled-setting (c .kind) (c .depth) (c .width) (c .turn) e in
-    sampled-axis (freshAt c w) (setting-held c w e) above below e (rw (lt-ltb 0 (c .depth) (s .shallow)))
+-- An axis that waits, at a sampled configuration and any position, is a sampled axis.
+pub waiting-sampled : {c : Config} {w : ℕ} → Word w → SampledSetting c → (armed : Bool) → SampledAxis (waiting c w armed)
+waiting-sampled word s armed = record {
+  word = word;
+  config = s;
+  runA = s .shallow;
+  runB = s .shallow;
+  runZ = s .shallow;
+  apart = and-false armed;
+  pace = record { direction = lit< tt; period = omega arith; resting = λ z. refl; age = lit< tt };
+  index = λ e. absurd (true≢false (sym e));
+  unprimed = λ u. refl;
+  doubles = lit< tt;
+  levels = refl;
+  runs = refl;
+}
 
 -- What setup makes of a counter's configuration, at any position, is a counter.
-pub setup-counter : (c : Config) (w : ℕ) → 1 ≤ w → w < 2 ^ 63 → counterConfig (c .kind) (c .depth) (c .width) (c .turn) ≡ true → CounterAxis (freshAt c w)
-setup-counter c w above below e =
-    let s = counter-setting (c .kind) (c .depth) (c .width) (c .turn) e in
-    record {
-      above = above;
-      below = below;
-      narrow = s .narrow;
-      wide = s .wide;
-      rest = ap (λ (d : Config). freshAt d w) (λ i. record { kind = s .kind i; depth = s .depth i; width = c .width; turn = s .turn i });
-    }
+pub setup-counter : {c : Config} {w : ℕ} → Word w → CounterSetting c → CounterAxis (freshAt c w)
+setup-counter {c} {w} word s = record {
+  word = word;
+  narrow = s .narrow;
+  wide = s .wide;
+  rest = ap (λ (d : Config). freshAt d w) (same-config (record { kind = s .kind; depth = s .depth; width = refl; turn = s .turn }));
+}
 
 -- HEADLINE: a row has a status exactly where it passes the test of that status.
 pub status-exactly : (s : Status) (r : Row) → (statusOf r ≡ s) ↔ (passes s r ≡ true)
@@ -202,7 +200,7 @@ pub sampled-gives : (r : Row) → statusOf r ≡ Sampled → SampledAxis (axisOf
 unfolding passes
 sampled-gives r e =
     let h = sampled-parts r (passes-of Sampled r e) in
-    sampled-axis (axisOf r) (row-held r) (h .0 .above) (h .0 .below) (h .1) (h .2)
+    sampled-axis (axisOf r) (row-held r) (h .0 .word) (h .1) (h .2)
 
 -- HEADLINE: an axis within those limits makes a sampled row.
 pub sampled-from : {a : Axis} → SampledAxis a → statusOf (rowOf a) ≡ Sampled
@@ -210,39 +208,22 @@ unfolding passes
 sampled-from {a} s =
     let h = sampled-held s in
     status-of Sampled (rowOf a)
-    (ap (λ (b : Axis). isPlain (rowOf a) && sampledConfig (b .kind) (b .depth) (b .width) (b .turn) && isConsistent b) (comes-back a h)
-    ∙ rw (held-plain a h (s .above) (s .below) (s .turn), sampled-config s, sampled-consistent s))
+    (ap (λ (b : Axis). isPlain (rowOf a) && sampledConfig (b .config .kind) (b .config .depth) (b .config .width) (b .config .turn) && isConsistent b) (comes-back a h)
+    ∙ rw (held-plain a h (s .word) (s .config .turn), sampled-passes (a .config) (s .config), sampled-consistent s))
 
 -- HEADLINE: the axis of a counter row is a counter as setup leaves it, at some position.
 pub counter-gives : (r : Row) → statusOf r ≡ Counter → CounterAxis (axisOf r)
 unfolding passes
 counter-gives r e =
     let h = counter-parts r (passes-of Counter r e) in
-    let zero : (above k d : ℕ) → fieldOf 14 (above + k + d) (r .w1) ≡ 0 → fieldOf (14 + d) k (r .w1) ≡ 0 = λ above k d. part-zero 14 above k d (r .w1) in
-    let clear : (above d : ℕ) → fieldOf 14 (above + 1 + d) (r .w1) ≡ 0 → flagOf (14 + d) (r .w1) ≡ false = λ above d z. ap (λ (x : ℕ). eqb x 1) (zero above 1 d z) in
+    let bit : (above d : ℕ) → fieldOf 14 (above + 1 + d) (r .w1) ≡ 0 → flagOf (14 + d) (r .w1) ≡ false = λ above d z. ap (λ (x : ℕ). eqb x 1) (part-zero 14 above 1 d (r .w1) z) in
+    let waits = bare-waits r (h .0) (bit 49 0 (h .2)) (part-zero 14 0 48 2 (r .w1) (h .2)) (ap (fieldOf 0 32) (h .3)) (ap (fieldOf 32 32) (h .3)) in
+    let same = same-config (record { kind = h .1 .kind; depth = h .1 .depth; width = refl; turn = h .1 .turn }) in
     record {
-      above = h .0 .above;
-      below = h .0 .below;
+      word = h .0 .word;
       narrow = h .1 .narrow;
       wide = h .1 .wide;
-      rest = agree (record {
-        word = refl;
-        kind = h .1 .kind;
-        depth = h .1 .depth;
-        width = refl;
-        primed = clear 49 0 (h .2);
-        armed = clear 48 1 (h .2);
-        homed = clear 47 2 (h .2);
-        range = clear 46 3 (h .2);
-        index = clear 45 4 (h .2);
-        levels = λ i. clear 44 5 (h .2) i ∷ clear 43 6 (h .2) i ∷ clear 42 7 (h .2) i ∷ [];
-        runs = λ i. zero 39 3 8 (h .2) i ∷ zero 36 3 11 (h .2) i ∷ zero 33 3 14 (h .2) i ∷ [];
-        doubles = zero 16 16 18 (h .2);
-        direction = zero 14 2 34 (h .2);
-        age = ap (fieldOf 0 32) (h .3);
-        period = ap (fieldOf 32 32) (h .3);
-        turn = h .1 .turn;
-      });
+      rest = waits ∙ (λ i. waiting (same i) (r .w0) (bit 48 1 (h .2) i));
     }
 
 -- What any row opens to is within its widths.
@@ -258,13 +239,13 @@ sampled-opens r a h e = (status-of Sampled r e, h ∙ ap axisOf (low-same r (sam
 pub opened-sampled : (r : Row) (o : Opened) → (o .status ≡ statusOf r) × (o .axis ≡ axisOf (lowRow r)) → o .status ≡ Sampled → (statusOf r ≡ Sampled) × (o .axis ≡ axisOf r)
 opened-sampled r o h e =
     let s = sym (h .0) ∙ e in
-    (s, h .1 ∙ ap axisOf (low-same r (sampled-gives r s .turn)))
+    (s, h .1 ∙ ap axisOf (low-same r (sampled-gives r s .config .turn)))
 
 -- So is one that opens as a counter.
 pub opened-counter : (r : Row) (o : Opened) → (o .status ≡ statusOf r) × (o .axis ≡ axisOf (lowRow r)) → o .status ≡ Counter → (statusOf r ≡ Counter) × (o .axis ≡ axisOf r)
 opened-counter r o h e =
     let s = sym (h .0) ∙ e in
-    let zero : r .w3 ≡ 0 = ap (λ (a : Axis). a .turn) (counter-gives r s .rest) in
+    let zero : r .w3 ≡ 0 = ap (λ (a : Axis). a .config .turn) (counter-gives r s .rest) in
     (s, h .1 ∙ ap axisOf (low-same r (omega arith)))
 
 -- HEADLINE: such a counter makes a counter row.
@@ -272,25 +253,26 @@ pub counter-from : {a : Axis} → CounterAxis a → statusOf (rowOf a) ≡ Count
 unfolding passes
 counter-from {a} c =
     let h = counter-held c in
-    let turn : a .turn ≡ 0 = ap (λ (b : Axis). b .turn) (c .rest) in
+    let turn : a .config .turn ≡ 0 = ap (λ (b : Axis). b .config .turn) (c .rest) in
     let high : (v : ℕ) → v ≤ 32 → fieldOf 14 50 (word1Of (freshAt (counterOf v) 0)) ≡ 0 = λ v e. omega arith in
     status-of Counter (rowOf a)
-    (ap (λ (b : Axis). isPlain (rowOf a) && counterConfig (b .kind) (b .depth) (b .width) (b .turn) && eqb (fieldOf 14 50 (word1Of a)) 0 && eqb (word2Of a) 0) (comes-back a h)
+    (ap (λ (b : Axis). isPlain (rowOf a) && counterConfig (b .config .kind) (b .config .depth) (b .config .width) (b .config .turn)
+    && eqb (fieldOf 14 50 (word1Of a)) 0 && eqb (word2Of a) 0) (comes-back a h)
     ∙ rw (
-      held-plain a h (c .above) (c .below) (omega arith),
+      held-plain a h (c .word) (omega arith),
       counter-config c,
-      ap (λ (b : Axis). fieldOf 14 50 (word1Of b)) (c .rest) ∙ high (a .width) (c .wide),
+      ap (λ (b : Axis). fieldOf 14 50 (word1Of b)) (c .rest) ∙ high (a .config .width) (c .wide),
       ap word2Of (c .rest),
     ))
 
 -- HEADLINE: setup leaves a sound row, of the status that its kind says, at any position.
-pub setup-sound : (c : Config) (w : ℕ) → 1 ≤ w → w < 2 ^ 63 → goodConfig (c .kind) (c .depth) (c .width) (c .turn) ≡ true →
+pub setup-sound : (c : Config) (w : ℕ) → Word w → goodConfig (c .kind) (c .depth) (c .width) (c .turn) ≡ true →
     statusOf (rowOf (freshAt c w)) ≡ cond (sampledKind (c .kind)) Sampled Counter
-setup-sound c w above below e =
+setup-sound c w word e =
     ⊎-elim
-    (λ h. rw (sampled-setting (c .kind) (c .depth) (c .width) (c .turn) h .kind) (sampled-from (setup-sampled c w above below h)))
-    (λ h. rw (counter-kind (c .kind) (counter-setting (c .kind) (c .depth) (c .width) (c .turn) h .kind)) (counter-from (setup-counter c w above below h)))
-    (good-cases (c .kind) (c .depth) (c .width) (c .turn) e)
+    (λ s. rw (s .kind) (sampled-from (waiting-sampled word s false)))
+    (λ s. rw (counter-kind (c .kind) (s .kind)) (counter-from (setup-counter word s)))
+    (good-cases c e)
 
 -- HEADLINE: erase leaves an empty row, four zero words.
 pub erase-sound : (rowOf blank ≡ emptyRow) × (statusOf (rowOf blank) ≡ Empty)

@@ -4,12 +4,14 @@ use mathlib.Core.Path.{_≡_}
 use mathlib.Core.Bool.{Bool, true, false, cond, not, _&&_, _||_}
 use lib.Dec.{eqb, leb, ltb}
 use lib.ListN.{getD, length}
+use Rattle.position.specs.Position.{isWord, Word}
 use Rattle.fields.specs.Field.{fieldOf}
-use Rattle.axis.specs.Kind.{COUNTER, sampledKind}
-use Rattle.axis.specs.Config.{sampledConfig, counterConfig}
-use Rattle.axis.specs.Row.{axisOf, freshAt}
+use Rattle.axis.specs.Kind.{COUNTER}
+use Rattle.axis.specs.Config.{sampledConfig, counterConfig, SampledSetting}
+use Rattle.axis.specs.Row.{axisOf, word1Of, word2Of, waiting, Waits, freshAt}
 use Rattle.axis.specs.declared.config.Config.{Config}
 use Rattle.axis.specs.declared.row.Axis.{Axis}
+use Rattle.axis.specs.declared.row.Pace.{Pace}
 use Rattle.axis.specs.declared.row.Row.{Row}
 use Rattle.axis_sound.specs.declared.Status.{Status}
 use Rattle.axis_sound.specs.declared.Status.the-variants.{Empty, Sampled, Counter, Broken}
@@ -20,33 +22,32 @@ isEmpty r = eqb (r .w0) 0 && eqb (r .w1) 0 && eqb (r .w2) 0 && eqb (r .w3) 0
 
 -- Word 0 is that of a position, the bits of word 1 that have no name are 0, and word 3 is below 2 ^ 32.
 abbrev pub isPlain : Row → Bool
-isPlain r =
-    leb 1 (r .w0) && ltb (r .w0) (2 ^ 63) && eqb (fieldOf 31 1 (r .w1)) 0 && eqb (fieldOf 50 14 (r .w1)) 0 && ltb (r .w3) (2 ^ 32)
+isPlain r = isWord (r .w0) && eqb (fieldOf 31 1 (r .w1)) 0 && eqb (fieldOf 50 14 (r .w1)) 0 && ltb (r .w3) (2 ^ 32)
 
--- What a row that is not primed has at 0: HOMED, RANGE, INDEX, levels, runs, doubles, direction, age and period.
-abbrev pub isFresh : Axis → Bool
-isFresh a =
-    not (a .homed) && not (a .range) && not (a .index)
-    && not (getD (a .levels) 0 false) && not (getD (a .levels) 1 false) && not (getD (a .levels) 2 false)
-    && eqb (getD (a .runs) 0 0) 0 && eqb (getD (a .runs) 1 0) 0 && eqb (getD (a .runs) 2 0) 0
-    && eqb (a .doubles) 0 && eqb (a .direction) 0 && eqb (a .age) 0 && eqb (a .period) 0
+-- Words 1 and 2 are those of the axis that waits at the same configuration, position and ARMED.
+abbrev pub isWaiting : Axis → Bool
+isWaiting a =
+    let b = waiting (a .config) (a .word) (a .flags .armed) in
+    eqb (word1Of a) (word1Of b) && eqb (word2Of a) (word2Of b)
 
 -- Each run is below the depth.
 abbrev pub isShort : Axis → Bool
-isShort a = ltb (getD (a .runs) 0 0) (a .depth) && ltb (getD (a .runs) 1 0) (a .depth) && ltb (getD (a .runs) 2 0) (a .depth)
+isShort a =
+    let d = a .config .depth in
+    ltb (getD (a .runs) 0 0) d && ltb (getD (a .runs) 1 0) d && ltb (getD (a .runs) 2 0) d
 
 -- Direction is not 3, and period is at most 2 ^ 32 - 2, and 0 where direction is 0.
-abbrev pub isPaced : Axis → Bool
-isPaced a = not (eqb (a .direction) 3) && leb (a .period) (2 ^ 32 - 2) && (not (eqb (a .direction) 0) || eqb (a .period) 0)
+abbrev pub isPaced : Pace → Bool
+isPaced p = not (eqb (p .direction) 3) && leb (p .period) (2 ^ 32 - 2) && (not (eqb (p .direction) 0) || eqb (p .period) 0)
 
--- The rest of a sampled axis: short runs, ARMED and HOMED not both, a sound pace, INDEX only with counts per turn above 0, and fresh where PRIMED is 0.
+-- The rest of a sampled axis: short runs, ARMED and HOMED not both, a sound pace, INDEX only with counts per turn above 0, and waiting where PRIMED is 0.
 abbrev pub isConsistent : Axis → Bool
 isConsistent a =
     isShort a
-    && not (a .armed && a .homed)
-    && isPaced a
-    && (not (a .index) || ltb 0 (a .turn))
-    && (a .primed || isFresh a)
+    && not (a .flags .armed && a .flags .homed)
+    && isPaced (a .pace)
+    && (not (a .flags .index) || ltb 0 (a .config .turn))
+    && (a .flags .primed || isWaiting a)
 
 -- A sampled row: a sampled configuration, and consistent beyond it.
 abbrev pub isSampled : Row → Bool
@@ -85,42 +86,25 @@ passes Sampled r = isSampled r
 passes Counter r = isCounter r
 passes Broken r = not (isEmpty r) && not (isSampled r) && not (isCounter r)
 
--- An axis that has at 0 what is 0 until priming.
-pub record Fresh (a : Axis) : Type 0 where
-  pub homed : a .homed ≡ false
-  pub range : a .range ≡ false
-  pub index : a .index ≡ false
-  pub levelA : getD (a .levels) 0 false ≡ false
-  pub levelB : getD (a .levels) 1 false ≡ false
-  pub levelZ : getD (a .levels) 2 false ≡ false
-  pub runA : getD (a .runs) 0 0 ≡ 0
-  pub runB : getD (a .runs) 1 0 ≡ 0
-  pub runZ : getD (a .runs) 2 0 ≡ 0
-  pub doubles : a .doubles ≡ 0
-  pub direction : a .direction ≡ 0
-  pub age : a .age ≡ 0
-  pub period : a .period ≡ 0
+-- The limits of a sampled axis's direction, age and period.
+pub record SoundPace (p : Pace) : Type 0 where
+  pub direction : p .direction < 3
+  pub period : p .period ≤ 2 ^ 32 - 2
+  pub resting : p .direction ≡ 0 → p .period ≡ 0
+  pub age : p .age < 2 ^ 32
 
 -- An axis that a sampled row holds.
 pub record SampledAxis (a : Axis) : Type 0 where
-  pub above : 1 ≤ a .word
-  pub below : a .word < 2 ^ 63
-  pub kind : sampledKind (a .kind) ≡ true
-  pub shallow : 1 ≤ a .depth
-  pub deep : a .depth ≤ 8
-  pub width : a .width ≡ 0
-  pub runA : getD (a .runs) 0 0 < a .depth
-  pub runB : getD (a .runs) 1 0 < a .depth
-  pub runZ : getD (a .runs) 2 0 < a .depth
-  pub apart : a .armed && a .homed ≡ false
-  pub direction : a .direction < 3
-  pub period : a .period ≤ 2 ^ 32 - 2
-  pub resting : a .direction ≡ 0 → a .period ≡ 0
-  pub index : a .index ≡ true → 0 < a .turn
-  pub unprimed : a .primed ≡ false → Fresh a
+  pub word : Word (a .word)
+  pub config : SampledSetting (a .config)
+  pub runA : getD (a .runs) 0 0 < a .config .depth
+  pub runB : getD (a .runs) 1 0 < a .config .depth
+  pub runZ : getD (a .runs) 2 0 < a .config .depth
+  pub apart : a .flags .armed && a .flags .homed ≡ false
+  pub pace : SoundPace (a .pace)
+  pub index : a .flags .index ≡ true → 0 < a .config .turn
+  pub unprimed : a .flags .primed ≡ false → Waits a
   pub doubles : a .doubles < 2 ^ 16
-  pub age : a .age < 2 ^ 32
-  pub turn : a .turn < 2 ^ 32
   pub levels : length (a .levels) ≡ 3
   pub runs : length (a .runs) ≡ 3
 
@@ -130,8 +114,7 @@ counterOf width = record { kind = COUNTER; depth = 0; width = width; turn = 0 }
 
 -- An axis that a counter row holds: all but its width and its word is as setup leaves it.
 pub record CounterAxis (a : Axis) : Type 0 where
-  pub above : 1 ≤ a .word
-  pub below : a .word < 2 ^ 63
-  pub narrow : 2 ≤ a .width
-  pub wide : a .width ≤ 32
-  pub rest : a ≡ freshAt (counterOf (a .width)) (a .word)
+  pub word : Word (a .word)
+  pub narrow : 2 ≤ a .config .width
+  pub wide : a .config .width ≤ 32
+  pub rest : a ≡ freshAt (counterOf (a .config .width)) (a .word)

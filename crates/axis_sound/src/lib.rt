@@ -8,6 +8,7 @@ ghost use Rattle.axis.specs.Row.{axisOf};
 ghost use Rattle.axis_sound.specs.Sound.{isEmpty, isPlain, isShort, isPaced, isSampled, isCounter, statusOf, lowRow, brokenBy};
 use axis::config;
 use axis::row::Axis;
+use axis::row::Pace;
 use axis::row::Row;
 use axis_packing::unpack;
 
@@ -36,31 +37,30 @@ fn is_empty(r: Row) -> bool
 fn is_plain(r: Row) -> bool
     ensures { λ b. ⌜ b ≡ isPlain r ⌝ }
 {
-    let w0 = r.w0;
     let w1 = r.w1;
     let w3 = r.w3;
     let low = fields::field(w1, 31, 1);
     let high = fields::field(w1, 50, 14);
-    (1 <= w0) & (w0 < 9223372036854775808) & (low == 0) & (high == 0) & (w3 < 4294967296)
+    position::is_word(r.w0) & (low == 0) & (high == 0) & (w3 < 4294967296)
 }
 
-// An axis is primed, or it is fresh: bits 16 to 63 of its row's word 1, which w1 is, are 0, and so are age and period.
+// An axis is primed, or it waits: bits 16 to 63 of its row's word 1, which w1 is, are 0, and so are age and period.
 fn is_ready(w1: u64, a: Axis) -> bool
-    ensures { λ b. ⌜ b ≡ (a .primed || (eqb (fieldOf 16 48 w1) 0 && eqb (a .age) 0 && eqb (a .period) 0)) ⌝ }
+    ensures { λ b. ⌜ b ≡ (a .flags .primed || (eqb (fieldOf 16 48 w1) 0 && eqb (a .pace .age) 0 && eqb (a .pace .period) 0)) ⌝ }
 {
-    if a.primed {
+    if a.flags.primed {
         return true;
     }
     let rest = fields::field(w1, 16, 48);
-    (rest == 0) & (a.age == 0) & (a.period == 0)
+    (rest == 0) & (a.pace.age == 0) & (a.pace.period == 0)
 }
 
 // INDEX is set only where there are counts per turn.
 fn is_indexed(a: Axis) -> bool
-    ensures { λ b. ⌜ b ≡ (not (a .index) || ltb 0 (a .turn)) ⌝ }
+    ensures { λ b. ⌜ b ≡ (not (a .flags .index) || ltb 0 (a .config .turn)) ⌝ }
 {
-    if a.index {
-        return 0 < a.turn;
+    if a.flags.index {
+        return 0 < a.config.turn;
     }
     true
 }
@@ -70,26 +70,29 @@ fn is_short(a: Axis) -> bool
     ensures { λ b. ⌜ b ≡ isShort a ⌝ }
 {
     let runs = a.runs;
-    (runs[0] < a.depth) & (runs[1] < a.depth) & (runs[2] < a.depth)
+    let depth = a.config.depth;
+    (runs[0] < depth) & (runs[1] < depth) & (runs[2] < depth)
 }
 
 // Direction and period fit each other.
-fn is_paced(a: Axis) -> bool
-    ensures { λ b. ⌜ b ≡ isPaced a ⌝ }
+fn is_paced(p: Pace) -> bool
+    ensures { λ b. ⌜ b ≡ isPaced p ⌝ }
 {
-    if a.direction == 0 {
-        return a.period == 0;
+    if p.direction == 0 {
+        return p.period == 0;
     }
-    (a.direction != 3) & (a.period <= 4294967294)
+    (p.direction != 3) & (p.period <= 4294967294)
 }
 
 // What a sampled row has whatever its axis did last: a plain row, a sampled configuration, short runs, and ARMED and HOMED not both.
 fn is_formed(r: Row, a: Axis) -> bool
-    ensures { λ b. ⌜ b ≡ isPlain r && sampledConfig (a .kind) (a .depth) (a .width) (r .w3) && (isShort a && not (a .armed && a .homed)) ⌝ }
+    ensures { λ b. ⌜ b ≡ isPlain r && sampledConfig (a .config .kind) (a .config .depth) (a .config .width) (r .w3)
+        && (isShort a && not (a .flags .armed && a .flags .homed)) ⌝ }
 {
-    let apart = !(a.armed & a.homed);
+    let c = a.config;
+    let apart = !(a.flags.armed & a.flags.homed);
     let plain = is_plain(r);
-    let config = config::is_sampled(a.kind as u64, a.depth as u64, a.width as u64, r.w3);
+    let config = config::is_sampled(c.kind as u64, c.depth as u64, c.width as u64, r.w3);
     plain & config & (is_short(a) & apart)
 }
 
@@ -101,7 +104,7 @@ pub fn is_sampled(r: Row, a: Axis) -> bool
     if !is_formed(r, a) {
         return false;
     }
-    if !is_paced(a) {
+    if !is_paced(a.pace) {
         return false;
     }
     if !is_indexed(a) {

@@ -3,11 +3,11 @@ use mathlib.Core.Path.{_≡_, refl, sym, _∙_, ap}
 use mathlib.Core.Bool.{Bool, true, false, cond, not, _||_, or-false, or-true}
 use lib.IntN.{ℤ, _+ℤ_}
 use Rattle.position.specs.Position.{inRange, wordOf, positionOf}
-use Rattle.position.proofs.PositionLaws.{word-low, word-high, position-word, word-position}
+use Rattle.position.proofs.PositionLaws.{word-holds, position-word, word-position}
 use Rattle.axis_decode.specs.Decode.{worth}
-use Rattle.axis_motion.specs.Count.{countedWord, countedRange, Reach}
+use Rattle.axis_motion.specs.Count.{countedWord, countedRange}
 use Rattle.axis_decode.specs.declared.Move.{Move}
-use Rattle.axis_motion.proofs.CountLaws.{count-reach, moves, holds as held}
+use Rattle.axis_motion.proofs.CountLaws.{count-keeps, moves, holds as held}
 use Rattle.history.specs.Tally.{holds}
 
 module _ (p : ℤ) (e : inRange p ≡ true) (m : Move) where
@@ -27,16 +27,12 @@ module _ (p : ℤ) (e : inRange p ≡ true) (m : Move) where
       back : positionOf (wordOf p) ≡ p
       back = position-word p e
 
-      reach : Reach (wordOf p)
-      reach = record { above = word-low p e; below = word-high p e }
-
       go : (b : Bool) → inRange (p +ℤ worth m) ≡ b →
           (countedWord m (wordOf p) ≡ wordOf (cond (not b) p (p +ℤ worth m))) × (countedRange m (wordOf p) r ≡ (r || not b))
       go true f =
           let k = moves m (wordOf p) r (rw back f) in
-          let to = count-reach m (wordOf p) reach in
-          (sym (word-position (countedWord m (wordOf p)) (to .above) (to .below)) ∙ ap wordOf (k .0 ∙ ap (λ (z : ℤ). z +ℤ worth m) back), k .1 ∙ sym (or-false r))
-      go false f = let k = held m (wordOf p) r reach (rw back f) in (k .0, k .1 ∙ sym (or-true r))
+          (sym (word-position (countedWord m (wordOf p)) (count-keeps m (wordOf p) (word-holds p e))) ∙ ap wordOf (k .0 ∙ ap (λ (z : ℤ). z +ℤ worth m) back), k .1 ∙ sym (or-false r))
+      go false f = let k = held m (wordOf p) r (word-holds p e) (rw back f) in (k .0, k .1 ∙ sym (or-true r))
 
   -- The word after an entry is that of the position, which moves unless the entry is held.
   pub count-word : countedWord m (wordOf p) ≡ wordOf (cond (holds p m) p (p +ℤ worth m))

@@ -58,7 +58,7 @@ module _ {r : Row} (words : Words r) (h : List Event) (counter : statusOf (rowSi
   place-preset z ok = rw (ok, first)
 
   -- HEADLINE: a reading that is accepted puts the place of a counter where it says.
-  pub place-reading : (x : ℕ) (z : ℤ) → widened (axisOf (rowSince r h) .width) (positionOf (rowSince r h .w0)) x ≡ Number z →
+  pub place-reading : (x : ℕ) (z : ℤ) → widened (axisOf (rowSince r h) .config .width) (positionOf (rowSince r h .w0)) x ≡ Number z →
       phaseOf r (asked (reading x) ∷ h) .place ≡ z
   unfolding phaseOf afterEvent afterCall afterChange
   place-reading x z e = rw (first, sym (reading-told words (tells words h) x first) ∙ e)
@@ -91,7 +91,7 @@ look-aside l r c = refl
 
 module _ (r : Row) (counter : statusOf r ≡ Counter) where
   abbrev width : ℕ
-  width = axisOf r .width
+  width = axisOf r .config .width
 
   abbrev start : ℤ
   start = positionOf (axisOf r .word)

@@ -23,7 +23,7 @@ is-double Double e = refl
 
 module _ (x : Axis) (s : Raw) (h : List Act) where
   -- A sample on a primed axis has an entry, and one that primes has none.
-  pub entry-primed : primedAt x h ≡ true → entryAt x s h ≡ entry (x .kind) (codeAt x h) (codeAt x (sampled s ∷ h)) ∷ []
+  pub entry-primed : primedAt x h ≡ true → entryAt x s h ≡ entry (x .config .kind) (codeAt x h) (codeAt x (sampled s ∷ h)) ∷ []
   unfolding entryAt
   entry-primed q = rw q
 

@@ -64,7 +64,7 @@ module _ {r : Row} (words : Words r) where
   starts : {s : Row} → Beginning r s → Tells r (begun s) s
   unfolding toldRow toldBy changed
   starts {s} b = record {
-    lawful = record { began = b; legal = tt; placed = λ e. let c = counter-gives s e in position-in-range (s .w0) (c .above) (c .below) };
+    lawful = record { began = b; legal = tt; placed = λ e. position-in-range (s .w0) (counter-gives s e .word) };
     row = go (statusOf s) refl;
   }
     where
@@ -75,8 +75,7 @@ module _ {r : Row} (words : Words r) where
       go Empty e = refl
       go Sampled e = sym (ap rowOf (told-first (axisOf s) (start-sound s e)) ∙ again (λ f. let z : _≡_ {A = ℕ} 0 1 = cc in omega arith))
       go Counter e =
-          let c = counter-gives s e in
-          sym (ap (λ (w : ℕ). record { w0 = w; w1 = word1Of (axisOf s); w2 = word2Of (axisOf s); w3 = s .w3 }) (word-position (s .w0) (c .above) (c .below))
+          sym (ap (λ (w : ℕ). record { w0 = w; w1 = word1Of (axisOf s); w2 = word2Of (axisOf s); w3 = s .w3 }) (word-position (s .w0) (counter-gives s e .word))
           ∙ again (λ f. let z : _≡_ {A = ℕ} 0 1 = cc in omega arith))
       go Broken e = refl
 
@@ -113,11 +112,11 @@ module _ {r : Row} (words : Words r) where
         }
 
     -- What a reading says of the row, it says of the phase's place.
-    pub reading-told : (x : ℕ) → statusOf (p .start) ≡ Counter → readingOf x (axisOf now) ≡ widened (axisOf (p .start) .width) (p .place) x
+    pub reading-told : (x : ℕ) → statusOf (p .start) ≡ Counter → readingOf x (axisOf now) ≡ widened (axisOf (p .start) .config .width) (p .place) x
     unfolding changed
     reading-told x e =
         ap (readingOf x) (counter-now e)
-        ∙ ap (λ (z : ℤ). widened (axisOf (p .start) .width) z x) (position-word (p .place) (t .lawful .placed e))
+        ∙ ap (λ (z : ℤ). widened (axisOf (p .start) .config .width) z x) (position-word (p .place) (t .lawful .placed e))
 
     -- What goes by the row's status, and leaves an empty and a broken row.
     by-sort : (next : Status → Row) (sampledOne counterOne : Phase) → next Empty ≡ now → next Broken ≡ now →
@@ -162,11 +161,11 @@ module _ {r : Row} (words : Words r) where
     unfolding afterCall readRow readingRow storedRow
     readings x =
         by-sort (λ s. leftBy now (storedRow now (byStatus Unreckoned (Unreckoned KIND) (readingOf x (axisOf now)) s))) p _ refl refl (λ e. t)
-        (λ e. rw (reading-told x e) (go e (widened (axisOf (p .start) .width) (p .place) x) refl))
+        (λ e. rw (reading-told x e) (go e (widened (axisOf (p .start) .config .width) (p .place) x) refl))
       where
-        go : statusOf (p .start) ≡ Counter → (a : Reckoned) → widened (axisOf (p .start) .width) (p .place) x ≡ a →
+        go : statusOf (p .start) ≡ Counter → (a : Reckoned) → widened (axisOf (p .start) .config .width) (p .place) x ≡ a →
             Tells r (readTo p a) (leftBy now (storedRow now a))
-        go e (Number z) f = moves z (nearest (axisOf (p .start) .width) (p .place) z x f .0) e
+        go e (Number z) f = moves z (nearest (axisOf (p .start) .config .width) (p .place) z x f .0) e
         go e (Unreckoned c) f = t
 
     restores : (bytes : List ℕ) → Tells r (afterCall p (restore bytes)) (leftBy now (restoreRow bytes now))

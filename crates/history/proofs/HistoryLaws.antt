@@ -31,16 +31,14 @@ module _ (x : Axis) (start : Start x) (h : List Act) (legal : Legal h) where
   whole = whole-history x start h legal
 
   -- HEADLINE: kind, depth, width and counts per turn never change.
-  pub configuration-history :
-      (after x h .kind ≡ x .kind) × (after x h .depth ≡ x .depth) × (after x h .width ≡ x .width) × (after x h .turn ≡ x .turn)
+  pub configuration-history : after x h .config ≡ x .config
   unfolding told
-  configuration-history =
-      (ap (λ (y : Axis). y .kind) whole, ap (λ (y : Axis). y .depth) whole, ap (λ (y : Axis). y .width) whole, ap (λ (y : Axis). y .turn) whole)
+  configuration-history = ap (λ (y : Axis). y .config) whole
 
   -- HEADLINE: PRIMED.
-  pub primed-history : after x h .primed ≡ primedAt x h
+  pub primed-history : after x h .flags .primed ≡ primedAt x h
   unfolding told
-  primed-history = ap (λ (y : Axis). y .primed) whole
+  primed-history = ap (λ (y : Axis). y .flags .primed) whole
 
   -- HEADLINE: each filtered level is that of the latest consecutive equal raw samples.
   pub level-history : (w : Wire) → line (after x h) w .level ≡ levelAt x w h
@@ -57,12 +55,12 @@ module _ (x : Axis) (start : Start x) (h : List Act) (legal : Legal h) where
 
   -- HEADLINE: RANGE is set where an entry was held, or as it was given.
   pub range-history :
-      after x h .range ≡ (placeTally x h .value .range || heldIn (placeTally x h .value .position) (placeTally x h .moves))
+      after x h .flags .range ≡ (placeTally x h .value .range || heldIn (placeTally x h .value .position) (placeTally x h .moves))
   unfolding told
-  range-history = ap (λ (y : Axis). y .range) whole
+  range-history = ap (λ (y : Axis). y .flags .range) whole
 
   -- HEADLINE: while RANGE is clear, the position is the last value given plus the sum of the entries since.
-  pub position-history : after x h .range ≡ false →
+  pub position-history : after x h .flags .range ≡ false →
       positionOf (after x h .word) ≡ placeTally x h .value .position +ℤ sum (placeTally x h .moves)
   position-history clear = position-walk ∙ walked-sum (placeTally x h) (sym range-history ∙ clear)
 
@@ -72,30 +70,30 @@ module _ (x : Axis) (start : Start x) (h : List Act) (legal : Legal h) where
   doubles-history = ap (λ (y : Axis). y .doubles) whole
 
   -- HEADLINE: direction, age and period are those of the entries.
-  pub direction-history : after x h .direction ≡ directionOf x (entries x h)
+  pub direction-history : after x h .pace .direction ≡ directionOf (x .pace) (entries x h)
   unfolding told
-  direction-history = ap (λ (y : Axis). y .direction) whole
+  direction-history = ap (λ (y : Axis). y .pace .direction) whole
 
-  pub age-history : after x h .age ≡ ageOf x (entries x h)
+  pub age-history : after x h .pace .age ≡ ageOf (x .pace) (entries x h)
   unfolding told
-  age-history = ap (λ (y : Axis). y .age) whole
+  age-history = ap (λ (y : Axis). y .pace .age) whole
 
-  pub period-history : after x h .period ≡ periodOf x (entries x h)
+  pub period-history : after x h .pace .period ≡ periodOf (x .pace) (entries x h)
   unfolding told
-  period-history = ap (λ (y : Axis). y .period) whole
+  period-history = ap (λ (y : Axis). y .pace .period) whole
 
   -- HEADLINE: ARMED, HOMED and INDEX.
-  pub armed-history : after x h .armed ≡ armedAt x h
+  pub armed-history : after x h .flags .armed ≡ armedAt x h
   unfolding told
-  armed-history = ap (λ (y : Axis). y .armed) whole
+  armed-history = ap (λ (y : Axis). y .flags .armed) whole
 
-  pub homed-history : after x h .homed ≡ homedAt x h
+  pub homed-history : after x h .flags .homed ≡ homedAt x h
   unfolding told
-  homed-history = ap (λ (y : Axis). y .homed) whole
+  homed-history = ap (λ (y : Axis). y .flags .homed) whole
 
-  pub index-history : after x h .index ≡ indexAt x h
+  pub index-history : after x h .flags .index ≡ indexAt x h
   unfolding told
-  index-history = ap (λ (y : Axis). y .index) whole
+  index-history = ap (λ (y : Axis). y .flags .index) whole
 
   -- HEADLINE: a sample's double bit is set exactly where its entry is E, also where doubles no longer grows.
   pub double-bit : (s : Raw) → stepAxis (after x h) s .double ≡ doubleAt x s h

@@ -1,5 +1,5 @@
 -- What lasts: what a refused call, a sample on a row that is not sampled, and events that begin no phase leave as it was.
-use mathlib.Core.Path.{_≡_, refl, sym, _∙_, ap, subst}
+use mathlib.Core.Path.{_≡_, refl, sym, _∙_, ap}
 use mathlib.Core.Bool.{Bool, true, false, cond, true≢false}
 use mathlib.Core.List.{List, [], _∷_, _++_, append-nil}
 use Prim.Native.Nat.{ℕ}
@@ -13,7 +13,6 @@ use Rattle.axis_sound.specs.Sound.{statusOf}
 use Rattle.axis.specs.declared.row.Row.{Row}
 use Rattle.axis_sound.specs.declared.Status.{Status}
 use Rattle.axis_sound.specs.declared.Status.the-variants.{Empty, Sampled, Counter, Broken}
-use Rattle.axis_sample.specs.After.{Configured}
 use Rattle.axis_sample.specs.Step.{stepBy, stepRow}
 use Rattle.axis_sample.proofs.RowLaws.{broken-stays}
 use Rattle.record.specs.Record.{readAs}
@@ -85,7 +84,7 @@ module _ (p : Phase) where
   start-next (asked (changes c)) q = start-change c q
   start-next (asked (restore bytes)) q = restored-start (readAs bytes) q
   start-next (asked (reading x)) q =
-      sort-start p _ refl (read-start (widened (axisOf (p .start) .width) (p .place) x)) (statusOf (p .start))
+      sort-start p _ refl (read-start (widened (axisOf (p .start) .config .width) (p .place) x)) (statusOf (p .start))
   start-next (asked (looks l)) q = refl
 
 -- HEADLINE: newer events that begin no phase leave the start of the phase that they found.
@@ -105,10 +104,11 @@ module _ {r : Row} (words : Words r) (h : List Event) (lasting : Lasting h) wher
   status-lasts = status-history words h ∙ ap statusOf (start-lasts r h lasting)
 
   -- HEADLINE: it keeps its kind, depth, width and counts per turn until then.
-  pub configuration-lasts : Configured (axisOf (rowSince r h)) (axisOf r)
+  pub configuration-lasts : axisOf (rowSince r h) .config ≡ axisOf r .config
   configuration-lasts =
-      subst (λ (s : Row). Configured (axisOf (rowSince r h)) (axisOf s)) (start-lasts r h lasting)
-      (rw (row-history words h) (told-configured (phase-lawful words h)))
+      ap (λ (s : Row). axisOf s .config) (row-history words h)
+      ∙ told-configured (phase-lawful words h)
+      ∙ ap (λ (s : Row). axisOf s .config) (start-lasts r h lasting)
 
   -- A row that is neither sampled nor a counter is the row that its phase began with.
   idle-lasts : (s : Status) → toldBy s (phaseOf r h) ≡ phaseOf r h .start → statusOf r ≡ s → rowSince r h ≡ r

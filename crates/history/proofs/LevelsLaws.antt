@@ -21,7 +21,7 @@ use Rattle.history.proofs.FilterLaws.{lineOf, line-short, line-start, f
 abbrev pub lineAt : Axis → Wire → List Act → Line
 lineAt x w h = record { level = levelAt x w h; run = runAt x w h }
 
-line-is : (x : Axis) (w : Wire) (h : List Act) → lineAt x w h ≡ lineOf (x .depth) (since x w h .level) (since x w h .raws)
+line-is : (x : Axis) (w : Wire) (h : List Act) → lineAt x w h ≡ lineOf (x .config .depth) (since x w h .level) (since x w h .raws)
 unfolding levelAt runAt
 line-is x w h = refl
 
@@ -38,7 +38,7 @@ unfolding levelAt since latest
 level-prime x w s h q = rw q
 
 level-next : (x : Axis) (w : Wire) (s : Raw) (h : List Act) → primedAt x h ≡ true →
-    levelAt x w (sampled s ∷ h) ≡ latest (x .depth) (since x w h .level) (levelOf s w ∷ since x w h .raws)
+    levelAt x w (sampled s ∷ h) ≡ latest (x .config .depth) (since x w h .level) (levelOf s w ∷ since x w h .raws)
 unfolding levelAt since
 level-next x w s h q = rw q
 
@@ -47,28 +47,28 @@ unfolding runAt since streak
 run-prime x w s h q = rw q
 
 -- At depth 1 those of every sample are.
-pub level-one : (x : Axis) (w : Wire) (s : Raw) (h : List Act) → x .depth ≡ 1 → levelAt x w (sampled s ∷ h) ≡ levelOf s w
+pub level-one : (x : Axis) (w : Wire) (s : Raw) (h : List Act) → x .config .depth ≡ 1 → levelAt x w (sampled s ∷ h) ≡ levelOf s w
 level-one x w s h d = go (primedAt x h) refl
   where
     go : (b : Bool) → primedAt x h ≡ b → levelAt x w (sampled s ∷ h) ≡ levelOf s w
-    go true q = level-next x w s h q ∙ latest-full (x .depth) (since x w h .level) (levelOf s w) (since x w h .raws) (omega (arith, streak-same (levelOf s w) (since x w h .raws)))
+    go true q = level-next x w s h q ∙ latest-full (x .config .depth) (since x w h .level) (levelOf s w) (since x w h .raws) (omega (arith, streak-same (levelOf s w) (since x w h .raws)))
     go false q = level-prime x w s h q
 
 module _ (x : Axis) (start : Start x) where
-  pub deep : 0 < x .depth
+  pub deep : 0 < x .config .depth
   deep = omega (arith, start .short A)
 
-  pub run-short : (w : Wire) (h : List Act) → runAt x w h < x .depth
-  run-short w h = rw (ap (λ (l : Line). l .run) (line-is x w h)) (line-short (x .depth) (since x w h .level) deep (since x w h .raws))
+  pub run-short : (w : Wire) (h : List Act) → runAt x w h < x .config .depth
+  run-short w h = rw (ap (λ (l : Line). l .run) (line-is x w h)) (line-short (x .config .depth) (since x w h .level) deep (since x w h .raws))
 
   -- The lines before any act.
   pub line-first : (w : Wire) → lineAt x w [] ≡ line x w
   unfolding since
-  line-first w = line-is x w [] ∙ line-start (x .depth) (line x w .level) (line x w .run) (start .short w)
+  line-first w = line-is x w [] ∙ line-start (x .config .depth) (line x w .level) (line x w .run) (start .short w)
 
   -- HEADLINE: the filter on the axis that a history tells gives the lines that the history with that sample tells.
   pub filtered-told : (w : Wire) (s : Raw) (h : List Act) → primedAt x h ≡ true → filtered (told x h) s w ≡ lineAt x w (sampled s ∷ h)
   unfolding filtered told since
   filtered-told w s h q =
       rw (line-told x w h, line-is x w h, line-is x w (sampled s ∷ h), q)
-      (filter-latest (x .depth) (since x w h .level) deep (since x w h .raws) (levelOf s w))
+      (filter-latest (x .config .depth) (since x w h .level) deep (since x w h .raws) (levelOf s w))

@@ -2,7 +2,7 @@
 use mathlib.Core.Path.{_≡_, refl, sym, _∙_, ap}
 use lib.IntN.{ℤ}
 use Rattle.position.specs.Position.{wordOf}
-use Rattle.position.proofs.PositionLaws.{word-low, word-high}
+use Rattle.position.proofs.PositionLaws.{word-holds}
 use Rattle.axis.specs.Row.{axisOf, rowOf, emptyRow, Words}
 use Rattle.axis_sound.specs.Sound.{statusOf, CounterAxis}
 use Rattle.axis.specs.declared.row.Axis.{Axis}
@@ -10,7 +10,6 @@ use Rattle.axis.specs.declared.row.Row.{Row}
 use Rattle.axis_sound.specs.declared.Status.{Status}
 use Rattle.axis_sound.specs.declared.Status.the-variants.{Empty, Sampled, Counter, Broken}
 use Rattle.axis_sound.proofs.SoundLaws.{sampled-gives, counter-gives}
-use Rattle.axis_sample.specs.After.{Configured}
 use Rattle.row_calls.specs.Change.{changed, presetAxis, Holds}
 use Rattle.row_counter.specs.Reading.{readAxis}
 use Rattle.row_calls.proofs.ChangeLaws.{sampled-holds, counter-holds}
@@ -30,7 +29,7 @@ counter-preset {x} c z = ap (presetAxis z) (c .rest) ∙ sym (read-at x z c)
 pub start-words : {r s : Row} → Words r → Beginning r s → Words s
 start-words words given = words
 start-words words erased = erase-makes emptyRow .1 .words
-start-words words (made c z good within) = config-holds c (wordOf z) good (word-low z within) (word-high z within) .words
+start-words words (made c z good within) = config-holds c (wordOf z) good (word-holds z within) .words
 
 module _ {r : Row} {p : Phase} (l : Lawful r p) where
   abbrev x : Axis
@@ -64,15 +63,12 @@ module _ {r : Row} {p : Phase} (l : Lawful r p) where
   axis-counter e = rw e (counter-row e .axis)
 
   -- Its configuration is that of the row that the phase began with.
-  pub told-configured : Configured (axisOf (toldRow p)) (axisOf (p .start))
+  pub told-configured : axisOf (toldRow p) .config ≡ axisOf (p .start) .config
   unfolding toldRow toldBy told changed
   told-configured = go (statusOf (p .start)) refl
     where
-      same : Configured (axisOf (p .start)) (axisOf (p .start))
-      same = record { kind = refl; depth = refl; width = refl; turn = refl }
-
-      go : (s : Status) → statusOf (p .start) ≡ s → Configured (axisOf (toldBy s p)) (axisOf (p .start))
-      go Empty e = same
-      go Sampled e = rw (sampled-row e .axis) (record { kind = refl; depth = refl; width = refl; turn = refl })
-      go Counter e = rw (counter-row e .axis) (record { kind = refl; depth = refl; width = refl; turn = refl })
-      go Broken e = same
+      go : (s : Status) → statusOf (p .start) ≡ s → axisOf (toldBy s p) .config ≡ axisOf (p .start) .config
+      go Empty e = refl
+      go Sampled e = ap (λ (a : Axis). a .config) (sampled-row e .axis)
+      go Counter e = ap (λ (a : Axis). a .config) (counter-row e .axis)
+      go Broken e = refl

@@ -12,7 +12,7 @@ use Rattle.history.specs.Levels.{primedAt, roseAt}
 use Rattle.history.specs.Entries.{entries}
 use Rattle.history.specs.Homing.{armedAt, homesAt, homedAt}
 use Rattle.history.specs.Tally.{walked, ranged, placeTally, doubled, doublesTally}
-use Rattle.history.specs.Pace.{directionOf, ageOf, periodOf}
+use Rattle.history.specs.Pace.{paceOf}
 use Rattle.history.specs.Index.{indexAt}
 use Rattle.history.specs.Told.{told, answered}
 use Rattle.history.proofs.LevelsLaws.{level-prime, run-prime}
@@ -63,21 +63,12 @@ module _ (x : Axis) (s : Raw) (h : List Act) (q : primedAt x h ≡ false) where
   unfolding primedBy told primedAt
   told-primes = λ i. record {
     word = wordOf (walked (place-stays i));
-    kind = x .kind;
-    depth = x .depth;
-    width = x .width;
-    primed = true;
-    armed = armed-stays i;
-    homed = homed-stays i;
-    range = ranged (place-stays i);
-    index = index-stays i;
+    config = x .config;
+    flags = record { primed = true; armed = armed-stays i; homed = homed-stays i; range = ranged (place-stays i); index = index-stays i };
     levels = levels-taken i;
     runs = runs-none i;
     doubles = doubled (doubles-stay i);
-    direction = directionOf x (entries-stay i);
-    age = ageOf x (entries-stay i);
-    period = periodOf x (entries-stay i);
-    turn = x .turn;
+    pace = paceOf (x .pace) (entries-stay i);
   }
 
   -- HEADLINE: a sample that primes sets PRIMED and the lines, changes nothing else, and sets no bit of the answer.

@@ -45,11 +45,11 @@ module _ {r : Row} (words : Words r) (h : List Event) (sampled : statusOf (rowSi
   level-row w = ap (λ (x : Axis). line x w .level) axis-row ∙ level-history (startAxis r h) start (actsSince r h) legal w
 
   -- HEADLINE: while RANGE is clear, the position is the last value given plus the sum of the entries since.
-  pub position-row : axisOf (rowSince r h) .range ≡ false →
+  pub position-row : axisOf (rowSince r h) .flags .range ≡ false →
       positionOf (rowSince r h .w0) ≡ placeTally (startAxis r h) (actsSince r h) .value .position +ℤ sum (placeTally (startAxis r h) (actsSince r h) .moves)
   position-row clear =
       ap (λ (x : Axis). positionOf (x .word)) axis-row
-      ∙ position-history (startAxis r h) start (actsSince r h) legal (sym (ap (λ (x : Axis). x .range) axis-row) ∙ clear)
+      ∙ position-history (startAxis r h) start (actsSince r h) legal (sym (ap (λ (x : Axis). x .flags .range) axis-row) ∙ clear)
 
   -- HEADLINE: doubles is the smaller of 65,535 and the E entries since the last setup, restore or acknowledge.
   pub doubles-row : axisOf (rowSince r h) .doubles ≡

@@ -23,7 +23,7 @@ use Rattle.history.specs.Told.{told, answered}
 use Rattle.history.proofs.LevelsLaws.{lineAt, filtered-told}
 use Rattle.history.proofs.EntriesLaws.{entry-primed, double-entry}
 use Rattle.history.proofs.TallyLaws.{counted-next, word-next, range-next, doubles-next}
-use Rattle.history.proofs.PaceLaws.{direction-next, age-next, period-next}
+use Rattle.history.proofs.PaceLaws.{pace-next}
 
 module _
     (x : Axis)
@@ -36,7 +36,7 @@ module _
   lines w = lineAt x w (sampled s ∷ h)
 
   move : Move
-  move = entry (x .kind) (codeAt x h) (codeAt x (sampled s ∷ h))
+  move = entry (x .config .kind) (codeAt x h) (codeAt x (sampled s ∷ h))
 
   move-is : moveTo (told x h) lines ≡ move
   unfolding moveTo line placeOf told codeAt lines move
@@ -54,15 +54,15 @@ module _
   unfolding settle told placeTally homesAt
   word-is = rw (move-is, rise-is, entry-is) (word-next (placeTally x h) value move (armedAt x h && roseAt x s h))
 
-  armed-is : settle (told x h) lines .armed ≡ told x (sampled s ∷ h) .armed
+  armed-is : settle (told x h) lines .flags .armed ≡ told x (sampled s ∷ h) .flags .armed
   unfolding settle told armedAt
   armed-is = rw rise-is
 
-  homed-is : settle (told x h) lines .homed ≡ told x (sampled s ∷ h) .homed
+  homed-is : settle (told x h) lines .flags .homed ≡ told x (sampled s ∷ h) .flags .homed
   unfolding settle told homedAt homesAt
   homed-is = rw rise-is
 
-  range-is : settle (told x h) lines .range ≡ told x (sampled s ∷ h) .range
+  range-is : settle (told x h) lines .flags .range ≡ told x (sampled s ∷ h) .flags .range
   unfolding settle told placeTally homesAt
   range-is = rw (move-is, rise-is, entry-is) (range-next (placeTally x h) value move (armedAt x h && roseAt x s h))
 
@@ -71,7 +71,7 @@ module _
   counted-is =
       counted-next (placeTally x h) value move ∙ ap (λ (ms : List Move). walked (onward ms (placeTally x h))) (sym entry-is)
 
-  index-is : settle (told x h) lines .index ≡ told x (sampled s ∷ h) .index
+  index-is : settle (told x h) lines .flags .index ≡ told x (sampled s ∷ h) .flags .index
   unfolding settle told indexAt
   index-is = rw (move-is, rise-is, counted-is)
 
@@ -79,37 +79,20 @@ module _
   unfolding settle told doublesTally
   doubles-is = rw (move-is, entry-is) (doubles-next (doublesTally x h) move)
 
-  direction-is : settle (told x h) lines .direction ≡ told x (sampled s ∷ h) .direction
+  pace-is : settle (told x h) lines .pace ≡ told x (sampled s ∷ h) .pace
   unfolding settle told entries
-  direction-is = rw (move-is, entry-is) (direction-next x (entries x h) move)
-
-  age-is : settle (told x h) lines .age ≡ told x (sampled s ∷ h) .age
-  unfolding settle told entries
-  age-is = rw (move-is, entry-is) (age-next x (entries x h) move)
-
-  period-is : settle (told x h) lines .period ≡ told x (sampled s ∷ h) .period
-  unfolding settle told entries
-  period-is = rw (move-is, entry-is) (period-next x (entries x h) move)
+  pace-is = rw (move-is, entry-is) (pace-next (x .pace) (entries x h) move)
 
   told-settles : settle (told x h) lines ≡ told x (sampled s ∷ h)
   unfolding settle told primedAt lines
   told-settles = λ i. record {
     word = word-is i;
-    kind = x .kind;
-    depth = x .depth;
-    width = x .width;
-    primed = true;
-    armed = armed-is i;
-    homed = homed-is i;
-    range = range-is i;
-    index = index-is i;
+    config = x .config;
+    flags = record { primed = true; armed = armed-is i; homed = homed-is i; range = range-is i; index = index-is i };
     levels = levelAt x A (sampled s ∷ h) ∷ levelAt x B (sampled s ∷ h) ∷ levelAt x Z (sampled s ∷ h) ∷ [];
     runs = runAt x A (sampled s ∷ h) ∷ runAt x B (sampled s ∷ h) ∷ runAt x Z (sampled s ∷ h) ∷ [];
     doubles = doubles-is i;
-    direction = direction-is i;
-    age = age-is i;
-    period = period-is i;
-    turn = x .turn;
+    pace = pace-is i;
   }
 
   lines-are : filtered (told x h) s ≡ lines

@@ -122,7 +122,7 @@ primed-watched x first (t ∷ ts) = refl
 
 -- ---- one sample
 
-module _ (x : Axis) (start : Start x) (kind : x .kind ≡ X4) (depth : x .depth ≡ 1) (first : ShaftSample) where
+module _ (x : Axis) (start : Start x) (kind : x .config .kind ≡ X4) (depth : x .config .depth ≡ 1) (first : ShaftSample) where
   code-at : (t : ShaftSample) (h : List Act) → codeAt x (sampled (rawAt t) ∷ h) ≡ shown (t .angle)
   unfolding codeAt rawAt levelOf
   code-at t h = ap₂ code (level-one x A (rawAt t) h depth) (level-one x B (rawAt t) h depth) ∙ code-shown (t .angle)
@@ -181,7 +181,7 @@ module _ (x : Axis) (start : Start x) (kind : x .kind ≡ X4) (depth : x .depth 
 
   -- HEADLINE: over any stretch of samples without E or homing, also after an earlier E, the position moves exactly as the shaft does, where RANGE is
   -- clear.
-  pub moves-as-shaft : (old new : List ShaftSample) → Gentle first old new → Plain x first old new → after x (watched first (new ++ old)) .range ≡ false →
+  pub moves-as-shaft : (old new : List ShaftSample) → Gentle first old new → Plain x first old new → after x (watched first (new ++ old)) .flags .range ≡ false →
       positionOf (after x (watched first (new ++ old)) .word)
       ≡ positionOf (after x (watched first old) .word) +ℤ (angleAt first (new ++ old) -ℤ angleAt first old)
   moves-as-shaft old new g p r =

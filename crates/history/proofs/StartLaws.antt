@@ -6,7 +6,7 @@ use Prim.Native.Nat.{_<_}
 use native.Mathlib.Omega.{arith}
 use lib.IntN.{ℤ}
 use Rattle.position.specs.Position.{inRange, wordOf}
-use Rattle.position.proofs.PositionLaws.{word-low, word-high}
+use Rattle.position.proofs.PositionLaws.{word-holds}
 use Rattle.axis.specs.Row.{axisOf, freshAt}
 use Rattle.axis_sound.specs.Sound.{statusOf, SampledAxis}
 use Rattle.axis.specs.declared.config.Config.{Config}
@@ -28,16 +28,15 @@ use Rattle.history.proofs.ToldLaws.{position-in, whole-history}
 pub start-sampled : {x : Axis} → SampledAxis x → Start x
 unfolding line placeOf
 start-sampled {x} s = record {
-  low = s .above;
-  high = s .below;
+  word = s .word;
   short = short;
   levels = s .levels;
   runs = s .runs;
   doubles = omega (arith, s .doubles);
-  age = s .age;
+  age = s .pace .age;
 }
   where
-    short : (w : Wire) → line x w .run < x .depth
+    short : (w : Wire) → line x w .run < x .config .depth
     short A = s .runA
     short B = s .runB
     short Z = s .runZ
@@ -50,8 +49,7 @@ start-sound r e = start-sampled (sampled-gives r e)
 pub start-fresh : (c : Config) (p : ℤ) → 0 < c .depth → inRange p ≡ true → Start (freshAt c (wordOf p))
 unfolding line placeOf
 start-fresh c p deep e = record {
-  low = word-low p e;
-  high = word-high p e;
+  word = word-holds p e;
   short = short;
   levels = refl;
   runs = refl;
@@ -69,8 +67,7 @@ unfolding told ageOf
 start-told x start h l =
     let p = position-in x start h l in
     record {
-      low = word-low (positionAt x h) p;
-      high = word-high (positionAt x h) p;
+      word = word-holds (positionAt x h) p;
       short = λ w. rw (line-told x w h) (run-short x start w h);
       levels = refl;
       runs = refl;

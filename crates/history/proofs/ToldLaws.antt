@@ -5,10 +5,11 @@ use mathlib.Core.List.{List, [], _∷_}
 use Prim.Native.Nat.{_+_, _-_, _^_, min}
 use native.Mathlib.Omega.{arith}
 use lib.IntN.{pos}
-use lib.ListN.{getD, length}
 use Rattle.position.specs.Position.{inRange}
 use Rattle.position.proofs.PositionLaws.{position-in-range, word-position}
+use Rattle.axis.specs.Flags.{withRange}
 use Rattle.axis.specs.declared.row.Axis.{Axis}
+use Rattle.axis.proofs.RowLaws.{three-of}
 use Rattle.axis_filter.specs.Lines.{A, B, Z}
 use Rattle.axis_sample.specs.Lines.{placeOf, line}
 use Rattle.axis_sample.specs.Step.{outcome, stepAxis}
@@ -29,14 +30,6 @@ use Rattle.history.proofs.TallyLaws.{walk-in-range}
 use Rattle.history.proofs.PrimeLaws.{primes}
 use Rattle.history.proofs.SettleLaws.{settles}
 
--- A list of three is its three elements.
-three-of : {T : Type 0} (l : List T) (d : T) → length l ≡ 3 → getD l 0 d ∷ getD l 1 d ∷ getD l 2 d ∷ [] ≡ l
-three-of (a ∷ b ∷ c ∷ []) d e = refl
-three-of [] d e = absurd (let z : ⊥ = omega arith in z)
-three-of (a ∷ []) d e = absurd (let z : ⊥ = omega arith in z)
-three-of (a ∷ b ∷ []) d e = absurd (let z : ⊥ = omega arith in z)
-three-of (a ∷ b ∷ c ∷ o ∷ l) d e = absurd (let z : ⊥ = omega arith in z)
-
 module _ (x : Axis) (start : Start x) where
   -- ---- before any act
 
@@ -55,36 +48,27 @@ module _ (x : Axis) (start : Start x) where
   doubles-first : min 65535 (x .doubles + 0) ≡ x .doubles
   doubles-first = omega (arith, start .doubles)
 
-  age-first : min (2 ^ 32 - 1) (x .age) ≡ x .age
+  age-first : min (2 ^ 32 - 1) (x .pace .age) ≡ x .pace .age
   age-first = omega (arith, start .age)
 
   -- An empty history tells the starting axis.
   pub told-first : told x [] ≡ x
   unfolding told primedAt armedAt homedAt indexAt placeTally walk heldIn doublesTally numberOfE entries directionOf gapOf ageOf periodOf
   told-first = λ i. record {
-    word = word-position (x .word) (start .low) (start .high) i;
-    kind = x .kind;
-    depth = x .depth;
-    width = x .width;
-    primed = x .primed;
-    armed = x .armed;
-    homed = x .homed;
-    range = or-false (x .range) i;
-    index = x .index;
+    word = word-position (x .word) (start .word) i;
+    config = x .config;
+    flags = withRange (or-false (x .flags .range) i) (x .flags);
     levels = levels-first i;
     runs = runs-first i;
     doubles = doubles-first i;
-    direction = x .direction;
-    age = age-first i;
-    period = x .period;
-    turn = x .turn;
+    pace = record { direction = x .pace .direction; age = age-first i; period = x .pace .period };
   }
 
   -- ---- the position stays in the range
 
   value-in-range : (h : List Act) → Legal h → inRange (placeTally x h .value .position) ≡ true
   unfolding placeTally inRange
-  value-in-range [] l = position-in-range (x .word) (start .low) (start .high)
+  value-in-range [] l = position-in-range (x .word) (start .word)
   value-in-range (sampled s ∷ h) l = go (homesAt x s h) (value-in-range h (l .1))
     where
       go : (b : Bool) → inRange (placeTally x h .value .position) ≡ true →

@@ -17,7 +17,7 @@ codeAt x h = code (levelAt x A h) (levelAt x B h)
 
 -- The mode's entry of the sample s after h, from the code before it to the code after it; none where the sample primes.
 unfoldable pub entryAt : Axis → Raw → List Act → List Move
-entryAt x s h = cond (primedAt x h) (entry (x .kind) (codeAt x h) (codeAt x (sampled s ∷ h)) ∷ []) []
+entryAt x s h = cond (primedAt x h) (entry (x .config .kind) (codeAt x h) (codeAt x (sampled s ∷ h)) ∷ []) []
 
 -- All entries of a history, newest first.
 unfoldable pub entries : Axis → List Act → List Move

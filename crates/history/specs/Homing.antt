@@ -8,7 +8,7 @@ use Rattle.history.specs.Levels.{roseAt}
 
 -- ARMED: from an arm to the next index rise.
 unfoldable pub armedAt : Axis → List Act → Bool
-armedAt x [] = x .armed
+armedAt x [] = x .flags .armed
 armedAt x (sampled s ∷ h) = armedAt x h && not (roseAt x s h)
 armedAt x (preset p ∷ h) = armedAt x h
 armedAt x (arm ∷ h) = true
@@ -20,7 +20,7 @@ homesAt x s h = armedAt x h && roseAt x s h
 
 -- HOMED: from a homing to the next preset or arm.
 unfoldable pub homedAt : Axis → List Act → Bool
-homedAt x [] = x .homed
+homedAt x [] = x .flags .homed
 homedAt x (sampled s ∷ h) = homedAt x h || homesAt x s h
 homedAt x (preset p ∷ h) = false
 homedAt x (arm ∷ h) = false

@@ -17,9 +17,9 @@ countedAt x s h = walked (onward (entryAt x s h) (placeTally x h))
 
 -- INDEX: from an index rise, on an axis that is homed and not armed, where the position is no multiple of the counts per turn, to an acknowledge.
 unfoldable pub indexAt : Axis → List Act → Bool
-indexAt x [] = x .index
+indexAt x [] = x .flags .index
 indexAt x (sampled s ∷ h) =
-    indexAt x h || (roseAt x s h && not (armedAt x h) && homedAt x h && offTurn (x .turn) (countedAt x s h))
+    indexAt x h || (roseAt x s h && not (armedAt x h) && homedAt x h && offTurn (x .config .turn) (countedAt x s h))
 indexAt x (preset p ∷ h) = indexAt x h
 indexAt x (arm ∷ h) = indexAt x h
 indexAt x (acknowledge ∷ h) = false

@@ -12,7 +12,7 @@ use Rattle.history.specs.Latest.{streak, latest}
 
 -- PRIMED: set by the first sample, for good.
 unfoldable pub primedAt : Axis → List Act → Bool
-primedAt x [] = x .primed
+primedAt x [] = x .flags .primed
 primedAt x (sampled s ∷ h) = true
 primedAt x (preset p ∷ h) = primedAt x h
 primedAt x (arm ∷ h) = primedAt x h
@@ -35,7 +35,7 @@ since x w (acknowledge ∷ h) = since x w h
 
 -- The filtered level of a line: that of the latest samples that were equal for the depth, or else the priming level.
 unfoldable pub levelAt : Axis → Wire → List Act → Bool
-levelAt x w h = latest (x .depth) (since x w h .level) (since x w h .raws)
+levelAt x w h = latest (x .config .depth) (since x w h .level) (since x w h .raws)
 
 -- The run of a line: how many of its newest samples differ from the filtered level, without a break.
 unfoldable pub runAt : Axis → Wire → List Act → ℕ

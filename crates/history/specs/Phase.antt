@@ -80,7 +80,7 @@ afterChange p Acknowledge = bySort (acted p acknowledged) p (statusOf (p .start)
 unfoldable pub afterCall : Phase → Op → Phase
 afterCall p (changes c) = afterChange p c
 afterCall p (restore bytes) = restoredTo p (readAs bytes)
-afterCall p (reading x) = bySort p (readTo p (widened (axisOf (p .start) .width) (p .place) x)) (statusOf (p .start)) p
+afterCall p (reading x) = bySort p (readTo p (widened (axisOf (p .start) .config .width) (p .place) x)) (statusOf (p .start)) p
 afterCall p (looks l) = p
 
 -- The phase after an event.

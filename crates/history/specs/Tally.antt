@@ -35,7 +35,7 @@ clear p = record { position = p; range = false }
 
 -- The position's tally: given by a preset and, as 0, by a homing; before the first of these, as the starting axis has it.
 unfoldable pub placeTally : Axis → List Act → Tally Place
-placeTally x [] = given (record { position = positionOf (x .word); range = x .range })
+placeTally x [] = given (record { position = positionOf (x .word); range = x .flags .range })
 placeTally x (sampled s ∷ h) = cond (homesAt x s h) (given (clear (pos 0))) (onward (entryAt x s h) (placeTally x h))
 placeTally x (preset p ∷ h) = given (clear p)
 placeTally x (arm ∷ h) = placeTally x h

@@ -10,28 +10,19 @@ use Rattle.history.specs.Levels.{primedAt, levelAt, runAt, roseAt}
 use Rattle.history.specs.Entries.{entries, doubleAt}
 use Rattle.history.specs.Homing.{armedAt, homedAt}
 use Rattle.history.specs.Tally.{positionAt, rangeAt, doublesAt}
-use Rattle.history.specs.Pace.{directionOf, ageOf, periodOf}
+use Rattle.history.specs.Pace.{paceOf}
 use Rattle.history.specs.Index.{indexAt}
 
 -- The axis after a history h that started from the axis x, by the starting axis and the acts alone; a configuration never changes.
 unfoldable pub told : Axis → List Act → Axis
 told x h = record {
   word = wordOf (positionAt x h);
-  kind = x .kind;
-  depth = x .depth;
-  width = x .width;
-  primed = primedAt x h;
-  armed = armedAt x h;
-  homed = homedAt x h;
-  range = rangeAt x h;
-  index = indexAt x h;
+  config = x .config;
+  flags = record { primed = primedAt x h; armed = armedAt x h; homed = homedAt x h; range = rangeAt x h; index = indexAt x h };
   levels = levelAt x A h ∷ levelAt x B h ∷ levelAt x Z h ∷ [];
   runs = runAt x A h ∷ runAt x B h ∷ runAt x Z h ∷ [];
   doubles = doublesAt x h;
-  direction = directionOf x (entries x h);
-  age = ageOf x (entries x h);
-  period = periodOf x (entries x h);
-  turn = x .turn;
+  pace = paceOf (x .pace) (entries x h);
 }
 
 -- The axis after the sample s after h, and its bits of the answer.

@@ -1,16 +1,16 @@
 -- The laws of positions and their words.
 use mathlib.Core.Path.{_≡_, refl, sym, _∙_, subst}
-use mathlib.Core.Bool.{true, false}
+use mathlib.Core.Bool.{true, false, and-eq-true-iff}
 use mathlib.Core.Logic.{⊎-elim}
 use Prim.Native.Nat.{ℕ, suc, _+_, _-_, _^_, _≤_, _<_}
 use native.Mathlib.Omega.{arith}
-use borrow.Author.Tests.{lt-ltb, le-ltb, ltb-true, leb-true, leb-false}
-use lib.Dec.{T}
+use borrow.Author.Tests.{lt-ltb, le-ltb, le-leb, ltb-true, leb-true, leb-false}
+use lib.Dec.{T, leb}
 use lib.IntN.{ℤ, pos, negsuc, natAbs}
 use lib.Signed.{leZ, ltZ}
 use Rattle.integers.specs.Integer.{plus, minus}
 use Rattle.integers.proofs.Balance.{abs-is, eqZ, bal-sub, sign}
-use Rattle.position.specs.Position.{inRange, wordOf, positionOf}
+use Rattle.position.specs.Position.{inRange, isWord, Word, wordOf, positionOf}
 
 -- ---- the range, by the two sides of a number
 
@@ -50,23 +50,33 @@ unfolding wordOf
 bal-word (pos n) h = omega arith
 bal-word (negsuc n) h = omega (arith, range-is (negsuc n) h)
 
--- the words of positions are those from 1 to 2 ^ 63 - 1
-pub word-low : (p : ℤ) → inRange p ≡ true → 0 < wordOf p
-word-low p h = omega (arith, bal-word p h, range-is p h)
+-- a word holds a position exactly where it passes the test
+pub word-gives : (w : ℕ) → isWord w ≡ true → Word w
+word-gives w e =
+    let h = and-eq-true-iff (leb 1 w) (leb w (2 ^ 63 - 1)) .0 e in
+    record { above = leb-true 1 w (h .0); below = omega (arith, leb-true w (2 ^ 63 - 1) (h .1)) }
 
-pub word-high : (p : ℤ) → inRange p ≡ true → wordOf p < 2 ^ 63
-word-high p h = ⊎-elim (λ e. omega (arith, e, bal-word p h, range-is p h)) (λ e. omega (arith, e, bal-word p h, range-is p h)) (sign p)
+pub word-passes : (w : ℕ) → Word w → isWord w ≡ true
+word-passes w h = rw (le-leb 1 w (h .above), le-leb w (2 ^ 63 - 1) (omega arith))
 
-pub position-small : (w : ℕ) → 0 < w → w < 2 ^ 63 → plus (positionOf w) + minus (positionOf w) < 2 ^ 62
-position-small w h k = ⊎-elim (λ e. omega (arith, e, bal-position w)) (λ e. omega (arith, e, bal-position w)) (sign (positionOf w))
+-- the word of a position holds one
+pub word-holds : (p : ℤ) → inRange p ≡ true → Word (wordOf p)
+word-holds p h =
+    record {
+      above = omega (arith, bal-word p h, range-is p h);
+      below = ⊎-elim (λ e. omega (arith, e, bal-word p h, range-is p h)) (λ e. omega (arith, e, bal-word p h, range-is p h)) (sign p);
+    }
 
-pub position-in-range : (w : ℕ) → 0 < w → w < 2 ^ 63 → inRange (positionOf w) ≡ true
-position-in-range w h k = range-yes (positionOf w) (position-small w h k)
+pub position-small : (w : ℕ) → Word w → plus (positionOf w) + minus (positionOf w) < 2 ^ 62
+position-small w h = ⊎-elim (λ e. omega (arith, e, bal-position w)) (λ e. omega (arith, e, bal-position w)) (sign (positionOf w))
+
+pub position-in-range : (w : ℕ) → Word w → inRange (positionOf w) ≡ true
+position-in-range w h = range-yes (positionOf w) (position-small w h)
 
 -- HEADLINE: the word of a position holds that position.
 pub position-word : (p : ℤ) → inRange p ≡ true → positionOf (wordOf p) ≡ p
 position-word p h = eqZ _ _ (omega (arith, bal-position (wordOf p), bal-word p h))
 
 -- HEADLINE: the position of a word has that word.
-pub word-position : (w : ℕ) → 0 < w → w < 2 ^ 63 → wordOf (positionOf w) ≡ w
-word-position w h k = omega (arith, bal-position w, bal-word (positionOf w) (position-in-range w h k))
+pub word-position : (w : ℕ) → Word w → wordOf (positionOf w) ≡ w
+word-position w h = omega (arith, bal-position w, bal-word (positionOf w) (position-in-range w h))

@@ -1,6 +1,6 @@
 -- Positions and the words that hold them: document 01, "One row, four words".
 use mathlib.Core.Bool.{Bool, _&&_}
-use Prim.Native.Nat.{ℕ, suc, _+_, _-_, _^_}
+use Prim.Native.Nat.{ℕ, suc, _+_, _-_, _^_, _<_}
 use lib.Dec.{ltb, leb}
 use lib.IntN.{ℤ, pos, negsuc, natAbs, _-ℤ_}
 
@@ -11,6 +11,11 @@ inRange p = ltb (natAbs p) (2 ^ 62)
 -- The words of positions are those from 1 to 2 ^ 63 - 1.
 abbrev pub isWord : ℕ → Bool
 isWord w = leb 1 w && leb w (2 ^ 63 - 1)
+
+-- A word that holds a position.
+pub record Word (w : ℕ) : Type 0 where
+  pub above : 0 < w
+  pub below : w < 2 ^ 63
 
 -- A row's word 0 is its position + 2 ^ 62.
 unfoldable pub wordOf : ℤ → ℕ

@@ -1,8 +1,7 @@
 // A position, and the word of a row that holds it.
 ghost use mathlib.Core.Path.{_≡_};
 ghost use mathlib.Core.Bool.{true};
-ghost use Prim.Native.Nat.{_<_, _^_};
-ghost use Rattle.position.specs.Position.{inRange, isWord, wordOf, positionOf};
+ghost use Rattle.position.specs.Position.{inRange, isWord, Word, wordOf, positionOf};
 
 // The word of the first position.
 pub const FIRST: u64 = 1;
@@ -41,7 +40,7 @@ pub fn word_of(position: i64) -> u64
 
 // The position that a word holds.
 pub fn at_word(word: u64) -> i64
-    requires { ⌜ (0 < word) × (word < 2 ^ 63) ⌝ }
+    requires { ⌜ Word word ⌝ }
     ensures { λ r. ⌜ r ≡ positionOf word ⌝ }
 {
     (word as i64) - MIDDLE

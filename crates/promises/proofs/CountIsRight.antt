@@ -53,11 +53,11 @@ module _ (t : List ℕ) (k : ℕ) (words : AllWords t) (h : k < axesIn (length t
   row-told = row-is ∙ row-history (row-words t k words) (own k cs)
 
   -- HEADLINE: a sampled row's position, while RANGE is clear, is the last setup, preset, restored or homing value plus the sum of the mode's entries since.
-  pub position-told : statusOf (rowAt (tableRun t cs) k) ≡ Sampled → axisOf (rowAt (tableRun t cs) k) .range ≡ false →
+  pub position-told : statusOf (rowAt (tableRun t cs) k) ≡ Sampled → axisOf (rowAt (tableRun t cs) k) .flags .range ≡ false →
       positionOf (rowAt (tableRun t cs) k .w0) ≡ tally .value .position +ℤ sum (tally .moves)
   position-told s clear =
       ap (λ (r : Row). positionOf (r .w0)) row-is
-      ∙ position-row (row-words t k words) (own k cs) (sym (ap statusOf row-is) ∙ s) (sym (ap (λ (r : Row). axisOf r .range) row-is) ∙ clear)
+      ∙ position-row (row-words t k words) (own k cs) (sym (ap statusOf row-is) ∙ s) (sym (ap (λ (r : Row). axisOf r .flags .range) row-is) ∙ clear)
 
   -- HEADLINE: its doubles is the smaller of 65,535 and the E entries since setup, restore or acknowledge.
   pub doubles-told : statusOf (rowAt (tableRun t cs) k) ≡ Sampled →

@@ -26,11 +26,11 @@ not-everything-refused t word e legal q = legal (sample-refused t word e .0 q .0
 
 -- A sample that changes nothing: a sampled row that was not primed is primed after a sample.
 pub sample-changes-something : (t : List ℕ) (k word : ℕ) → k < axesIn (length t) → statusOf (rowAt t k) ≡ Sampled →
-    axisOf (rowAt t k) .primed ≡ false → axisOf (rowAt (sampledTable t word) k) .primed ≡ true
+    axisOf (rowAt t k) .flags .primed ≡ false → axisOf (rowAt (sampledTable t word) k) .flags .primed ≡ true
 sample-changes-something t k word h s u =
-    ap (λ (r : Row). axisOf r .primed) (sample-row t word k h)
-    ∙ ap (λ (x : _). x .primed) (axis-after (rowAt t k) (nibble word k) s)
-    ∙ priming (axisOf (rowAt t k)) (rawOf (nibble word k)) u .primed
+    ap (λ (r : Row). axisOf r .flags .primed) (sample-row t word k h)
+    ∙ ap (λ (x : _). x .flags .primed) (axis-after (rowAt t k) (nibble word k) s)
+    ∙ ap (λ (f : _). f .primed) (priming (axisOf (rowAt t k)) (rawOf (nibble word k)) u .flags)
 
 -- A first sample that uses up the run: each sample's table follows from the table that the calls before it left and from this word.
 pub each-sample-by-itself : (t : List ℕ) (cs : List Call) (word : ℕ) → tableRun t (cs ++ (port word ∷ [])) ≡ sampledTable (tableRun t cs) word

@@ -76,10 +76,10 @@ good-config c h = ⊎-elim first second (or-true (sampledConfig k d w t) (counte
     t = c .turn
 
     first : sampledConfig k d w t ≡ true → SoundConfig c
-    first g = let s = sampled-setting k d w t g in sampled (s .kind) (s .deep) (s .width) (s .turn)
+    first g = let s = sampled-setting c g in sampled (s .kind) (s .deep) (s .width) (s .turn)
 
     second : counterConfig k d w t ≡ true → SoundConfig c
-    second g = let s = counter-setting k d w t g in counter (eq-eqb k COUNTER (s .kind)) (s .wide) (s .depth) (s .turn)
+    second g = let s = counter-setting c g in counter (eq-eqb k COUNTER (s .kind)) (s .wide) (s .depth) (s .turn)
 
 module _ (s : Saved) (h : withinLimits s ≡ true) where
   -- It is a configuration and a position.

@@ -3,17 +3,18 @@ use Prim.Native.Nat.{ℕ, _<_, _^_}
 use native.Mathlib.Omega.{arith}
 use mathlib.Core.Path.{_≡_, refl, sym, ap, subst}
 use mathlib.Core.Logic.{⊎-elim}
-use mathlib.Core.Bool.{Bool, true, false, _&&_, and-false, true≢false}
+use mathlib.Core.Bool.{true, false, _&&_, and-false, true≢false}
 use lib.Dec.{lit<}
 use lib.IntN.{ℤ}
 use Rattle.integers.proofs.Balance.{Tested, yes, no, test}
-use Rattle.position.specs.Position.{inRange, wordOf}
-use Rattle.position.proofs.PositionLaws.{word-low, word-high}
+use Rattle.position.specs.Position.{inRange, Word, wordOf}
+use Rattle.position.proofs.PositionLaws.{word-holds}
 use Rattle.refusal.specs.declared.Refusal.{Refusal}
 use Rattle.refusal.specs.declared.Refusal.the-variants.{Kind as KIND, Value as VALUE}
-use Rattle.axis.specs.Row.{axisOf, rowOf, freshAt}
+use Rattle.axis.specs.Row.{axisOf, rowOf, Waits, freshAt}
 use Rattle.axis_sound.specs.Sound.{statusOf, SampledAxis, CounterAxis, counterOf}
 use Rattle.axis.specs.declared.row.Axis.{Axis}
+use Rattle.axis.specs.declared.row.Flags.{Flags}
 use Rattle.axis.specs.declared.row.Row.{Row}
 use Rattle.axis_sound.specs.declared.Status.{Status}
 use Rattle.axis_sound.specs.declared.Status.the-variants.{Sampled, Counter}
@@ -27,78 +28,53 @@ use Rattle.row_calls.proofs.StatusLaws.{live}
 -- ---- axes
 
 -- A sampled axis stays one where the change keeps what the limits of one say of the word, the flags and the doubles.
-sampled-changed : {x : Axis} → SampledAxis x → (word : ℕ) (armed homed range index : Bool) (doubles : ℕ) →
-    0 < word → word < 2 ^ 63 → armed && homed ≡ false → (index ≡ true → 0 < x .turn) → doubles < 2 ^ 16 →
-    (x .primed ≡ false → (homed ≡ false) × (range ≡ false) × (index ≡ false) × (doubles ≡ 0)) →
-    SampledAxis (changed x word armed homed range index doubles)
+sampled-changed : {x : Axis} → SampledAxis x → (word : ℕ) (flags : Flags) (doubles : ℕ) → Word word → flags .armed && flags .homed ≡ false →
+    (flags .index ≡ true → 0 < x .config .turn) → doubles < 2 ^ 16 → (flags .primed ≡ false → Waits (changed x word flags doubles)) →
+    SampledAxis (changed x word flags doubles)
 unfolding changed
-sampled-changed {x} s word armed homed range index doubles above below apart counted few fresh = record {
-  above = above;
-  below = below;
-  kind = s .kind;
-  shallow = s .shallow;
-  deep = s .deep;
-  width = s .width;
+sampled-changed s word flags doubles at apart counted few waits = record {
+  word = at;
+  config = s .config;
   runA = s .runA;
   runB = s .runB;
   runZ = s .runZ;
   apart = apart;
-  direction = s .direction;
-  period = s .period;
-  resting = s .resting;
+  pace = s .pace;
   index = counted;
-  unprimed = λ u.
-      let f = s .unprimed u in
-      let g = fresh u in
-      record {
-        homed = g .0;
-        range = g .1;
-        index = g .2;
-        levelA = f .levelA;
-        levelB = f .levelB;
-        levelZ = f .levelZ;
-        runA = f .runA;
-        runB = f .runB;
-        runZ = f .runZ;
-        doubles = g .3;
-        direction = f .direction;
-        age = f .age;
-        period = f .period;
-      };
+  unprimed = waits;
   doubles = few;
-  age = s .age;
-  turn = s .turn;
   levels = s .levels;
   runs = s .runs;
 }
 
 -- A preset within the range keeps a sampled axis.
 pub preset-sampled : (x : Axis) (p : ℤ) → inRange p ≡ true → SampledAxis x → SampledAxis (presetAxis p x)
+unfolding changed
 preset-sampled x p i s =
-    sampled-changed s (wordOf p) (x .armed) false false (x .index) (x .doubles) (word-low p i) (word-high p i) (and-false (x .armed)) (s .index) (s .doubles)
-    (λ u. (refl, refl, s .unprimed u .index, s .unprimed u .doubles))
+    sampled-changed s (wordOf p) (presetAxis p x .flags) (x .doubles) (word-holds p i) (and-false (x .flags .armed)) (s .index) (s .doubles)
+    (λ u. ap (presetAxis p) (s .unprimed u))
 
 -- Arming keeps a sampled axis.
 pub arm-sampled : (x : Axis) → SampledAxis x → SampledAxis (armAxis x)
+unfolding changed
 arm-sampled x s =
-    sampled-changed s (x .word) true false (x .range) (x .index) (x .doubles) (s .above) (s .below) refl (s .index) (s .doubles)
-    (λ u. (refl, s .unprimed u .range, s .unprimed u .index, s .unprimed u .doubles))
+    sampled-changed s (x .word) (armAxis x .flags) (x .doubles) (s .word) refl (s .index) (s .doubles) (λ u. ap armAxis (s .unprimed u))
 
 -- An acknowledgement keeps a sampled axis.
 pub acknowledge-sampled : (x : Axis) → SampledAxis x → SampledAxis (acknowledgeAxis x)
+unfolding changed
 acknowledge-sampled x s =
-    sampled-changed s (x .word) (x .armed) (x .homed) (x .range) false 0 (s .above) (s .below) (s .apart) (λ e. absurd (true≢false (sym e))) (lit< tt)
-    (λ u. (s .unprimed u .homed, s .unprimed u .range, refl, refl))
+    sampled-changed s (x .word) (acknowledgeAxis x .flags) 0 (s .word) (s .apart) (λ e. absurd (true≢false (sym e))) (lit< tt)
+    (λ u. ap acknowledgeAxis (s .unprimed u))
 
 -- A counter at another position is a counter.
-pub counter-moved : (x : Axis) (word : ℕ) → 0 < word → word < 2 ^ 63 → CounterAxis x → (y : Axis) → y ≡ freshAt (counterOf (x .width)) word → CounterAxis y
-counter-moved x word above below k y e =
-    subst CounterAxis (sym e) (record { above = above; below = below; narrow = k .narrow; wide = k .wide; rest = refl })
+pub counter-moved : (x : Axis) (word : ℕ) → Word word → CounterAxis x → (y : Axis) → y ≡ freshAt (counterOf (x .config .width)) word → CounterAxis y
+counter-moved x word at k y e = subst CounterAxis (sym e) (record { word = at; narrow = k .narrow; wide = k .wide; rest = refl })
 
 -- A preset within the range keeps a counter.
 pub preset-counter : (x : Axis) (p : ℤ) → inRange p ≡ true → CounterAxis x → CounterAxis (presetAxis p x)
 unfolding changed
-preset-counter x p i k = counter-moved x (wordOf p) (word-low p i) (word-high p i) k (presetAxis p x) (ap (presetAxis p) (k .rest))
+preset-counter x p i k = counter-moved x (wordOf p) (word-holds p i) k (presetAxis p x) (ap (presetAxis p) (k .rest))
 
 -- ---- rows
 
@@ -106,7 +82,7 @@ preset-counter x p i k = counter-moved x (wordOf p) (word-low p i) (word-high p 
 pub sampled-holds : (a : Axis) → SampledAxis a → Holds (rowOf a) Sampled a
 sampled-holds a s =
     let h = sampled-held s in
-    record { status = sampled-from s; axis = comes-back a h; words = held-words a h (omega (arith, s .below)) (omega (arith, s .turn)) }
+    record { status = sampled-from s; axis = comes-back a h; words = held-words a h (omega (arith, s .word)) (omega (arith, s .config .turn)) }
 
 -- The row of a counter holds it.
 pub counter-holds : (a : Axis) → CounterAxis a → Holds (rowOf a) Counter a
@@ -115,7 +91,7 @@ counter-holds a k =
     record {
       status = counter-from k;
       axis = comes-back a h;
-      words = held-words a h (omega (arith, k .below)) (omega (arith, ap (λ (b : Axis). b .turn) (k .rest)));
+      words = held-words a h (omega (arith, k .word)) (omega (arith, ap (λ (b : Axis). b .config .turn) (k .rest)));
     }
 
 -- A row that was made and the row that was told are one.

@@ -6,6 +6,7 @@ use mathlib.Core.Bool.{true, false, cond}
 use mathlib.Core.Logic.{_↔_, ⊎-elim}
 use lib.Dec.{lit<}
 use Rattle.integers.proofs.Balance.{Tested, yes, no, test}
+use Rattle.position.specs.Position.{Word}
 use Rattle.refusal.specs.declared.Refusal.the-variants.{Value as VALUE}
 use Rattle.axis.specs.Kind.{sampledKind}
 use Rattle.axis.specs.Config.{goodConfig}
@@ -13,7 +14,6 @@ use Rattle.axis.specs.Row.{rowOf, emptyRow, fresh, freshAt, blank}
 use Rattle.axis.specs.declared.config.Config.{Config}
 use Rattle.axis.specs.declared.row.Row.{Row}
 use Rattle.axis_sound.specs.declared.Status.the-variants.{Empty, Sampled, Counter}
-use Rattle.axis.proofs.ConfigLaws.{sampled-setting, counter-setting}
 use Rattle.axis.proofs.RowLaws.{comes-back, held-words}
 use Rattle.axis_sound.proofs.SoundLaws.{good-cases, setup-held, setup-sound, erase-sound}
 use Rattle.row_calls.specs.Change.{Holds}
@@ -31,21 +31,21 @@ pub record Limits (k d v n : ℕ) : Type 0 where
 -- A configuration is within them.
 pub limits : (k d v n : ℕ) → goodConfig k d v n ≡ true → Limits k d v n
 limits k d v n e =
-    let h = setup-held (configOf k d v n) 0 e .narrow in
+    let h = setup-held (configOf k d v n) 0 e .narrow .config in
     record {
       kind = omega (arith, h .kind);
       depth = omega (arith, h .depth);
       width = omega (arith, h .width);
-      turn = ⊎-elim (λ s. sampled-setting k d v n s .turn) (λ s. omega (arith, counter-setting k d v n s .turn)) (good-cases k d v n e);
+      turn = ⊎-elim (λ s. s .turn) (λ s. omega (arith, s .turn)) (good-cases (configOf k d v n) e);
     }
 
 -- The row that a setup makes, at any position, holds its axis.
-pub config-holds : (c : Config) (w : ℕ) → goodConfig (c .kind) (c .depth) (c .width) (c .turn) ≡ true → 0 < w → w < 2 ^ 63 →
+pub config-holds : (c : Config) (w : ℕ) → goodConfig (c .kind) (c .depth) (c .width) (c .turn) ≡ true → Word w →
     Holds (rowOf (freshAt c w)) (cond (sampledKind (c .kind)) Sampled Counter) (freshAt c w)
-config-holds c w good above below =
+config-holds c w good word =
     let h = setup-held c w good in
     record {
-      status = setup-sound c w above below good;
+      status = setup-sound c w word good;
       axis = comes-back (freshAt c w) h;
       words = held-words (freshAt c w) h (omega arith) (omega (arith, limits (c .kind) (c .depth) (c .width) (c .turn) good .turn));
     }
@@ -56,7 +56,7 @@ unfolding setupRow
 setup-makes k d v n r q e = go (test (goodConfig k d v n))
   where
     go : Tested (goodConfig k d v n) → Holds q (cond (sampledKind k) Sampled Counter) (fresh (configOf k d v n))
-    go (yes g) = to-one (rw g at e) (config-holds (configOf k d v n) (2 ^ 62) g (lit< tt) (lit< tt))
+    go (yes g) = to-one (rw g at e) (config-holds (configOf k d v n) (2 ^ 62) g (record { above = lit< tt; below = lit< tt }))
     go (no g) = absurd (kept-not q VALUE (rw g at e))
 
 -- HEADLINE: a setup is refused exactly where its numbers are no configuration, and then by VALUE.

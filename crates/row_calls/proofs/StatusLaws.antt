@@ -8,36 +8,26 @@ use lib.IntN.{ℤ}
 use mir.Syntax.{w64}
 use mir.Val.{toZ, ofZ}
 use Rattle.integers.proofs.Machine.{back, fits-size}
-use Rattle.position.specs.Position.{inRange}
+use Rattle.position.specs.Position.{inRange, Word}
 use Rattle.position.proofs.PositionLaws.{range-is}
 use Rattle.refusal.specs.declared.Refusal.{Refusal}
 use Rattle.refusal.specs.declared.Refusal.the-variants.{Broken as BROKEN, Empty as EMPTY}
 use Rattle.axis.specs.Row.{axisOf, Narrow}
 use Rattle.axis_sound.specs.Sound.{statusOf}
 use Rattle.axis.specs.declared.row.Axis.{Axis}
+use Rattle.axis.specs.declared.row.Flags.{Flags}
 use Rattle.axis.specs.declared.row.Row.{Row}
 use Rattle.axis_sound.specs.declared.Status.{Status}
 use Rattle.axis_sound.specs.declared.Status.the-variants.{Empty, Sampled, Counter, Broken}
 use Rattle.axis_sound.proofs.SoundLaws.{sampled-gives, counter-gives}
 use Rattle.row_calls.specs.Change.{changed}
-use Rattle.row_calls.specs.Calls.{Positioned, byStatus}
-
--- A sampled row has a position.
-pub sampled-positioned : (r : Row) → statusOf r ≡ Sampled → Positioned (axisOf r)
-sampled-positioned r e = let s = sampled-gives r e in record { above = s .above; below = s .below }
-
--- A counter row has a position.
-pub counter-positioned : (r : Row) → statusOf r ≡ Counter → Positioned (axisOf r)
-counter-positioned r e = let k = counter-gives r e in record { above = k .above; below = k .below }
+use Rattle.row_calls.specs.Calls.{byStatus}
 
 -- An axis within its widths packs, whatever its word, its flags and its doubles become.
-pub packs : {a : Axis} → Narrow a → (word : ℕ) (armed homed range index : Bool) (doubles : ℕ) → doubles < 2 ^ 16 →
-    Narrow (changed a word armed homed range index doubles)
+pub packs : {a : Axis} → Narrow a → (word : ℕ) (flags : Flags) (doubles : ℕ) → doubles < 2 ^ 16 → Narrow (changed a word flags doubles)
 unfolding changed
-packs n word armed homed range index doubles below = record {
-  kind = n .kind;
-  depth = n .depth;
-  width = n .width;
+packs n word flags doubles below = record {
+  config = n .config;
   runA = n .runA;
   runB = n .runB;
   runZ = n .runZ;
@@ -62,9 +52,9 @@ abbrev pub Live : Row → Type 0
 Live r = (statusOf r ≡ Sampled) ⊎ (statusOf r ≡ Counter)
 
 -- It has a position.
-pub live-position : (r : Row) → Live r → Positioned (axisOf r)
-live-position r (inl e) = sampled-positioned r e
-live-position r (inr e) = counter-positioned r e
+pub live-position : (r : Row) → Live r → Word (axisOf r .word)
+live-position r (inl e) = sampled-gives r e .word
+live-position r (inr e) = counter-gives r e .word
 
 -- A row whose status goes by its kind is one.
 pub made-live : (q : Row) (b : Bool) → statusOf q ≡ cond b Sampled Counter → Live q

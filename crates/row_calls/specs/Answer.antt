@@ -35,13 +35,13 @@ doneFound (Refused e) = foundIn e
 -- What a view shows: kind, position, the five flags and doubles.
 abbrev pub viewOf : Axis → View
 viewOf x = record {
-  kind = x .kind;
+  kind = x .config .kind;
   position = positionOf (x .word);
-  primed = x .primed;
-  armed = x .armed;
-  homed = x .homed;
-  range = x .range;
-  index = x .index;
+  primed = x .flags .primed;
+  armed = x .flags .armed;
+  homed = x .flags .homed;
+  range = x .flags .range;
+  index = x .flags .index;
   doubles = x .doubles;
 }
 

@@ -1,5 +1,5 @@
 -- What setup, erase, preset, arm, acknowledge and view make of the named row, and answer: document 01, "Calls that name one axis".
-use Prim.Native.Nat.{ℕ, _<_, _^_}
+use Prim.Native.Nat.{ℕ}
 use mathlib.Core.Bool.{cond}
 use lib.IntN.{ℤ}
 use Rattle.position.specs.Position.{inRange}
@@ -55,11 +55,6 @@ unfoldable pub eraseRow : Row → Changed
 eraseRow r = To emptyRow
 
 -- ---- calls on a row that is sound and not empty
-
--- What the axis of every such row has: its word is that of a position.
-pub record Positioned (a : Axis) : Type 0 where
-  pub above : 0 < a .word
-  pub below : a .word < 2 ^ 63
 
 -- A preset on the axis of such a row.
 abbrev pub placeAxis : ℤ → Axis → Changed

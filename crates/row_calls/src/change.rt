@@ -20,8 +20,8 @@ fn placed(x: Axis, position: i64) -> Changed
     }
     let mut moved = x;
     moved.word = position::word_of(position);
-    moved.homed = false;
-    moved.range = false;
+    moved.flags.homed = false;
+    moved.flags.range = false;
     Changed::To(pack(moved))
 }
 
@@ -53,8 +53,8 @@ pub fn arm(r: Row) -> Changed
         Status::Counter => Changed::Kept(Refusal::Kind),
         Status::Sampled => {
             let mut armed = axis;
-            armed.armed = true;
-            armed.homed = false;
+            armed.flags.armed = true;
+            armed.flags.homed = false;
             Changed::To(pack(armed))
         }
     }
@@ -73,7 +73,7 @@ pub fn acknowledge(r: Row) -> Changed
         Status::Counter => Changed::Kept(Refusal::Kind),
         Status::Sampled => {
             let mut seen = axis;
-            seen.index = false;
+            seen.flags.index = false;
             seen.doubles = 0;
             Changed::To(pack(seen))
         }

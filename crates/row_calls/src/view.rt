@@ -1,7 +1,8 @@
 // View: what an axis shows.
 ghost use mathlib.Core.Path.{_≡_};
+ghost use Rattle.position.specs.Position.{Word};
 ghost use Rattle.row_calls.specs.Answer.{viewOf};
-ghost use Rattle.row_calls.specs.Calls.{Positioned, viewRow};
+ghost use Rattle.row_calls.specs.Calls.{viewRow};
 use crate::answer::View;
 use crate::answer::Viewed;
 use axis::row::Axis;
@@ -12,17 +13,18 @@ use refusal::Refusal;
 
 // What an axis shows.
 fn shown(a: Axis) -> View
-    requires { ⌜ Positioned a ⌝ }
+    requires { ⌜ Word (a .word) ⌝ }
     ensures { λ v. ⌜ v ≡ viewOf a ⌝ }
 {
+    let flags = a.flags;
     View {
-        kind: a.kind,
+        kind: a.config.kind,
         position: position::at_word(a.word),
-        primed: a.primed,
-        armed: a.armed,
-        homed: a.homed,
-        range: a.range,
-        index: a.index,
+        primed: flags.primed,
+        armed: flags.armed,
+        homed: flags.homed,
+        range: flags.range,
+        index: flags.index,
         doubles: a.doubles,
     }
 }

@@ -23,10 +23,10 @@ use Rattle.row_calls.proofs.ChangeLaws.{counter-holds}
 use Rattle.row_counter.proofs.ReadingLaws.{read-at, read-kept}
 
 -- A counter row is at its own position.
-at-start : (r : Row) → statusOf r ≡ Counter → At (axisOf r .width) (positionOf (axisOf r .word)) r
+at-start : (r : Row) → statusOf r ≡ Counter → At (axisOf r .config .width) (positionOf (axisOf r .word)) r
 at-start r e =
     let k = counter-gives r e in
-    record { status = e; axis = k .rest ∙ ap (freshAt (counterOf (axisOf r .width))) (sym (word-position (axisOf r .word) (k .above) (k .below))) }
+    record { status = e; axis = k .rest ∙ ap (freshAt (counterOf (axisOf r .config .width))) (sym (word-position (axisOf r .word) (k .word))) }
 
 -- ---- one reading, from a counter row q of w bits at the position W
 
@@ -34,8 +34,8 @@ module _ (w : ℕ) (W : ℤ) (q : Row) (at : At w W q) (okW : inRange W ≡ true
   counter : CounterAxis (axisOf q)
   counter = counter-gives q (at .status)
 
-  wide : axisOf q .width ≡ w
-  wide = ap (λ (a : Axis). a .width) (at .axis)
+  wide : axisOf q .config .width ≡ w
+  wide = ap (λ (a : Axis). a .config .width) (at .axis)
 
   good : goodWidth w ≡ true
   good = rw (le-leb 2 w (rw wide at (counter .narrow)), le-leb w 32 (rw wide at (counter .wide)))
@@ -61,14 +61,14 @@ module _ (w : ℕ) (W : ℤ) (q : Row) (at : At w W q) (okW : inRange W ≡ true
 module _ (r : Row) (counter : statusOf r ≡ Counter) where
   -- Its width.
   abbrev bits : ℕ
-  bits = axisOf r .width
+  bits = axisOf r .config .width
 
   -- Its position, which is the shaft's.
   abbrev start : ℤ
   start = positionOf (axisOf r .word)
 
   newest-in-range : {ps : List ℤ} → Gentle bits start ps → inRange (newest start ps) ≡ true
-  newest-in-range still = let k = counter-gives r counter in position-in-range (axisOf r .word) (k .above) (k .below)
+  newest-in-range still = position-in-range (axisOf r .word) (counter-gives r counter .word)
   newest-in-range (moved p ps ok near g) = ok
 
   -- HEADLINE: after readings of a shaft that moves gently, the row is a counter as setup leaves it, at the shaft's position.

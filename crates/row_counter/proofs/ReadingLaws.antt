@@ -6,7 +6,7 @@ use mathlib.Core.Bool.{true}
 use lib.Dec.{lit<}
 use lib.IntN.{ℤ}
 use Rattle.position.specs.Position.{inRange, wordOf, positionOf}
-use Rattle.position.proofs.PositionLaws.{word-low, word-high}
+use Rattle.position.proofs.PositionLaws.{word-holds}
 use Rattle.refusal.specs.declared.Refusal.the-variants.{Kind as KIND}
 use Rattle.reckon.specs.Reckoned.{refusalIn}
 use Rattle.reckon.specs.Widening.{widened}
@@ -48,10 +48,10 @@ pub reading-reasons : (x : ℕ) (r : Row) → StatusReasons (refusalIn (readingR
 unfolding readingRow
 reading-reasons x r =
     let a = axisOf r in
-    counters-only refusalIn Refused (λ e. refl) (readingOf x a) (reading-past (a .width) (positionOf (a .word)) x) (statusOf r)
+    counters-only refusalIn Refused (λ e. refl) (readingOf x a) (reading-past (a .config .width) (positionOf (a .word)) x) (statusOf r)
 
 -- HEADLINE: on a counter a reading is widened from the counter's width and position, with the refusals of that call.
-pub reading-is : (x : ℕ) (r : Row) → statusOf r ≡ Counter → readingRow x r ≡ widened (axisOf r .width) (positionOf (axisOf r .word)) x
+pub reading-is : (x : ℕ) (r : Row) → statusOf r ≡ Counter → readingRow x r ≡ widened (axisOf r .config .width) (positionOf (axisOf r .word)) x
 unfolding readingRow
 reading-is x r e = rw e
 
@@ -76,16 +76,16 @@ read-counter x r p e =
 pub read-in-range : (x : ℕ) (r : Row) (p : ℤ) → readingRow x r ≡ Number p → inRange p ≡ true
 read-in-range x r p e =
     let a = axisOf r in
-    nearest (a .width) (positionOf (a .word)) p x (read-counter x r p e .1) .0
+    nearest (a .config .width) (positionOf (a .word)) p x (read-counter x r p e .1) .0
 
 -- What a reading makes of a counter is the counter at the position read.
-pub read-at : (x : Axis) (p : ℤ) → CounterAxis x → readAxis p x ≡ freshAt (counterOf (x .width)) (wordOf p)
+pub read-at : (x : Axis) (p : ℤ) → CounterAxis x → readAxis p x ≡ freshAt (counterOf (x .config .width)) (wordOf p)
 unfolding changed
 read-at x p k = ap (readAxis p) (k .rest)
 
 -- A reading within the range keeps a counter.
 pub read-kept : (x : Axis) (p : ℤ) → inRange p ≡ true → CounterAxis x → CounterAxis (readAxis p x)
-read-kept x p i k = counter-moved x (wordOf p) (word-low p i) (word-high p i) k (readAxis p x) (read-at x p k)
+read-kept x p i k = counter-moved x (wordOf p) (word-holds p i) k (readAxis p x) (read-at x p k)
 
 -- HEADLINE: a reading that is accepted stores the position that it answers, and leaves a counter row a counter.
 pub read-keeps : (x : ℕ) (r q : Row) → readRow x r ≡ To q → (p : ℤ) × (readingRow x r ≡ Number p) × Holds q (statusOf r) (readAxis p (axisOf r))

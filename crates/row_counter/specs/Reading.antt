@@ -17,11 +17,11 @@ use Rattle.row_calls.specs.declared.answer.Changed.the-variants.{To, Kept}
 
 -- A reading that is accepted sets the position.
 abbrev pub readAxis : ℤ → Axis → Axis
-readAxis p x = changed x (wordOf p) (x .armed) (x .homed) (x .range) (x .index) (x .doubles)
+readAxis p x = changed x (wordOf p) (x .flags) (x .doubles)
 
 -- What a reading says on a counter row, by the counter's width and position.
 abbrev pub readingOf : ℕ → Axis → Reckoned
-readingOf x a = widened (a .width) (positionOf (a .word)) x
+readingOf x a = widened (a .config .width) (positionOf (a .word)) x
 
 -- The answer of a reading, on a counter only.
 unfoldable pub readingRow : ℕ → Row → Reckoned

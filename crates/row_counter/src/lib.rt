@@ -1,10 +1,10 @@
 // A reading of a narrow counter: what it answers, and what it makes of the row.
 ghost use mathlib.Core.Path.{_≡_};
 ghost use mathlib.Core.Bool.{true};
-ghost use Rattle.position.specs.Position.{inRange};
+ghost use Rattle.position.specs.Position.{inRange, Word};
 ghost use Rattle.axis.specs.Row.{rowOf, Narrow};
 ghost use Rattle.row_counter.specs.Reading.{readAxis, readingOf, readingRow, readRow};
-ghost use Rattle.row_calls.specs.Calls.{Positioned, byStatus};
+ghost use Rattle.row_calls.specs.Calls.{byStatus};
 use axis::row::Axis;
 use axis::row::Row;
 use axis_packing::pack::pack;
@@ -23,15 +23,15 @@ pub struct Taken {
 
 // What a reading says of a counter.
 fn widened(a: Axis, reading: u64) -> Reckoned
-    requires { ⌜ Positioned a ⌝ }
+    requires { ⌜ Word (a .word) ⌝ }
     ensures { λ n. ⌜ n ≡ readingOf reading a ⌝ }
 {
-    reckon::widening::widen(a.width as u64, position::at_word(a.word), reading)
+    reckon::widening::widen(a.config.width as u64, position::at_word(a.word), reading)
 }
 
 // What a reading answers on an opened row.
 fn answer(opened: Opened, reading: u64) -> Reckoned
-    requires { ⌜ (opened .status ≡ Status.Counter → Positioned (opened .axis)) ⌝ }
+    requires { ⌜ (opened .status ≡ Status.Counter → Word (opened .axis .word)) ⌝ }
     ensures { λ n. ⌜ n ≡ byStatus Reckoned.Refused (Reckoned.Refused Refusal.Kind) (readingOf reading (opened .axis)) (opened .status) ⌝ }
 {
     let status = opened.status;

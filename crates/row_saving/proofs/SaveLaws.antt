@@ -11,20 +11,21 @@ use lib.Seq.{take-append-seam}
 use borrow.Author.Tests.{le-leb, leb-true}
 use Rattle.integers.proofs.Balance.{Tested, yes, no, test}
 use Rattle.position.specs.Position.{wordOf}
-use Rattle.position.proofs.PositionLaws.{word-low, word-high, position-in-range, position-word, word-position}
+use Rattle.position.proofs.PositionLaws.{word-holds, position-in-range, position-word, word-position}
 use Rattle.refusal.specs.declared.Refusal.{Refusal}
 use Rattle.refusal.specs.declared.Refusal.the-variants.{Kind as KIND, Room as ROOM}
 use Rattle.refusal.specs.Order.{checked}
 use Rattle.refusal.proofs.RefusalLaws.{after-either}
 use Rattle.axis.specs.Kind.{sampledKind}
-use Rattle.axis.specs.Config.{sampledConfig, counterConfig, goodConfig}
+use Rattle.axis.specs.Config.{sampledConfig, counterConfig, goodConfig, SampledSetting}
 use Rattle.axis.specs.Row.{axisOf, rowOf, fresh, freshAt, Words}
 use Rattle.axis_sound.specs.Sound.{statusOf}
+use Rattle.axis.specs.declared.config.Config.{Config}
 use Rattle.axis.specs.declared.row.Axis.{Axis}
 use Rattle.axis.specs.declared.row.Row.{Row}
 use Rattle.axis_sound.specs.declared.Status.the-variants.{Sampled, Counter, Broken}
 use Rattle.axis.proofs.TestLaws.{either}
-use Rattle.axis_sound.proofs.PassLaws.{sampled-config}
+use Rattle.axis.proofs.ConfigLaws.{sampled-passes}
 use Rattle.axis_sound.proofs.SoundLaws.{sampled-gives, counter-gives, counter-config, packed-again}
 use Rattle.tagged.specs.Bytes.{AllBytes}
 use Rattle.record.specs.Answer.{writtenNumber}
@@ -50,7 +51,7 @@ said-holds : (said : Saved) → withinLimits said ≡ true →
     Holds (rowOf (freshAt (said .config) (wordOf (said .position)))) (cond (sampledKind (said .config .kind)) Sampled Counter) (freshAt (said .config) (wordOf (said .position)))
 said-holds said e =
     let p = within-parts said e in
-    config-holds (said .config) (wordOf (said .position)) (p .0) (word-low (said .position) (p .1)) (word-high (said .position) (p .1))
+    config-holds (said .config) (wordOf (said .position)) (p .0) (word-holds (said .position) (p .1))
 
 -- HEADLINE: a restore is refused where the record is, for the same reason.
 pub restore-refused : (s : List ℕ) (e : Refusal) (r : Row) → readAs s ≡ Unread e → restoreRow s r ≡ Kept e
@@ -71,32 +72,31 @@ restore-is s said r a =
     let c = said .config in
     let p = said .position in
     let parts = within-parts said (accepted-within s said a) in
-    let h = config-holds c (2 ^ 62) (parts .0) (lit< tt) (lit< tt) in
+    let h = config-holds c (2 ^ 62) (parts .0) (record { above = lit< tt; below = lit< tt }) in
     let set : placeRow p (rowOf (fresh c)) ≡ To (rowOf (freshAt c (wordOf p))) = rw (parts .1) (ap (λ (x : Axis). To (rowOf (presetAxis p x))) (h .axis)) in
     rw (a, parts .0) (sym (either-kind Kept (placeRow p (rowOf (fresh c))) (rowOf (fresh c)) (made-live (rowOf (fresh c)) (sampledKind (c .kind)) (h .status)) ∙ set))
 
 -- ---- what is saved
 
 -- A sampled configuration is one, and so is a counter's.
-sampled-good : (k d v n : ℕ) → sampledConfig k d v n ≡ true → goodConfig k d v n ≡ true
+sampled-good : (c : Config) → SampledSetting c → goodConfig (c .kind) (c .depth) (c .width) (c .turn) ≡ true
 unfolding goodConfig
-sampled-good k d v n e = rw e
+sampled-good c s = rw (sampled-passes c s)
 
-counter-good : (k d v n : ℕ) → counterConfig k d v n ≡ true → goodConfig k d v n ≡ true
+counter-good : (c : Config) → counterConfig (c .kind) (c .depth) (c .width) (c .turn) ≡ true → goodConfig (c .kind) (c .depth) (c .width) (c .turn) ≡ true
 unfolding goodConfig
-counter-good k d v n e = either (sampledConfig k d v n) (counterConfig k d v n) (λ _. e)
+counter-good c e =
+    either (sampledConfig (c .kind) (c .depth) (c .width) (c .turn)) (counterConfig (c .kind) (c .depth) (c .width) (c .turn)) (λ _. e)
 
 -- The configuration and the position of a sound row are within their limits.
 saved-within : (r : Row) → Live r → withinLimits (savedOf (axisOf r)) ≡ true
 unfolding withinLimits
 saved-within r (inl e) =
     let s = sampled-gives r e in
-    let a = axisOf r in
-    rw (sampled-good (a .kind) (a .depth) (a .width) (a .turn) (sampled-config s), position-in-range (a .word) (s .above) (s .below))
+    rw (sampled-good (axisOf r .config) (s .config), position-in-range (axisOf r .word) (s .word))
 saved-within r (inr e) =
     let k = counter-gives r e in
-    let a = axisOf r in
-    rw (counter-good (a .kind) (a .depth) (a .width) (a .turn) (counter-config k), position-in-range (a .word) (k .above) (k .below))
+    rw (counter-good (axisOf r .config) (counter-config k), position-in-range (axisOf r .word) (k .word))
 
 -- The record of a row.
 abbrev bytes : Row → List ℕ
@@ -134,22 +134,21 @@ saved-length room n r l e = go (test (leb (length (bytes r)) room)) (sym (save-a
 
 -- HEADLINE: a restore of what a save wrote makes, of any row, the row with the saved configuration and position and all else 0.
 pub restored-save : (b : List ℕ) (n : ℕ) (r q : Row) → saveRow (length b) r ≡ Bytes n →
-    restoreRow (take n (savedIn b r)) q ≡ To (rowOf (freshAt (savedOf (axisOf r) .config) (axisOf r .word)))
+    restoreRow (take n (savedIn b r)) q ≡ To (rowOf (freshAt (axisOf r .config) (axisOf r .word)))
 unfolding restoreRow restoredBy
 restored-save b n r q e =
     let a = axisOf r in
     let l = saved-live (length b) n r e in
     let k = saved-length (length b) n r l e in
     let front : take n (savedIn b r) ≡ bytes r = rw (save-front r l b (rw (k .0) (k .1)), ← k .0) (take-append-seam (bytes r) (drop (length (bytes r)) b)) in
-    let p = live-position r l in
-    rw (front, read-back (savedOf a) (saved-within r l), word-position (a .word) (p .above) (p .below))
+    rw (front, read-back (savedOf a) (saved-within r l), word-position (a .word) (live-position r l))
 
 -- HEADLINE: a counter that was saved is restored as it was, all four words.
 pub restored-counter : (b : List ℕ) (n : ℕ) (r q : Row) → Words r → statusOf r ≡ Counter → saveRow (length b) r ≡ Bytes n → restoreRow (take n (savedIn b r)) q ≡ To r
 restored-counter b n r q w c e =
     let k = counter-gives r c in
     restored-save b n r q e
-    ∙ ap (λ (x : Axis). To (rowOf x)) (ap (λ (x : Axis). freshAt (savedOf x .config) (x .word)) (k .rest) ∙ sym (k .rest))
+    ∙ ap (λ (x : Axis). To (rowOf x)) (ap (λ (x : Axis). freshAt (x .config) (x .word)) (k .rest) ∙ sym (k .rest))
     ∙ ap To (packed-again r w (λ h. not-broken (sym c ∙ h)))
   where
     not-broken : Counter ≡ Broken → ⊥

@@ -12,16 +12,13 @@ use Rattle.record.specs.declared.answer.Read.{Read}
 use Rattle.record.specs.declared.answer.Read.the-variants.{Accepted, Refused as Unread}
 use Rattle.record.specs.declared.answer.Written.{Written}
 use Rattle.record.specs.declared.answer.Written.the-variants.{Refused as Unwritten}
-use Rattle.row_calls.specs.Calls.{byStatus, configOf}
+use Rattle.row_calls.specs.Calls.{byStatus}
 use Rattle.row_calls.specs.declared.answer.Changed.{Changed}
 use Rattle.row_calls.specs.declared.answer.Changed.the-variants.{To, Kept}
 
 -- What an axis saves: its configuration and its position.
 abbrev pub savedOf : Axis → Saved
-savedOf a = record {
-  config = configOf (a .kind) (a .depth) (a .width) (a .turn);
-  position = positionOf (a .word);
-}
+savedOf a = record { config = a .config; position = positionOf (a .word) }
 
 -- The answer of a save, on a sampled row and on a counter, by the room in the buffer.
 unfoldable pub saveRow : ℕ → Row → Written

@@ -1,9 +1,8 @@
 // Save and restore.
 ghost use mathlib.Core.Path.{_≡_};
 ghost use lib.ListN.{length};
-ghost use Rattle.row_calls.specs.Calls.{Positioned};
+ghost use Rattle.position.specs.Position.{Word};
 ghost use Rattle.row_saving.specs.Saving.{savedOf, saveRow, savedIn, restoreRow};
-use axis::config::Config;
 use axis::row::Axis;
 use axis::row::Row;
 use axis_packing::pack::pack;
@@ -17,16 +16,12 @@ use row_calls::answer::Changed;
 
 // What is saved of an axis.
 fn kept(a: Axis) -> Saved
-    requires { ⌜ Positioned a ⌝ }
+    requires { ⌜ Word (a .word) ⌝ }
     ensures { λ s. ⌜ s ≡ savedOf a ⌝ }
 {
+    let config = a.config;
     Saved {
-        config: Config {
-            kind: a.kind,
-            depth: a.depth,
-            width: a.width,
-            turn: a.turn,
-        },
+        config,
         position: position::at_word(a.word),
     }
 }

@@ -14,8 +14,8 @@ use Rattle.reckon.specs.Speed.{speedRefusal, goodCount, goodSamples, goodRate, 
 use Rattle.reckon.specs.declared.speed.Speed.the-variants.{Of, Refused}
 use Rattle.reckon.proofs.SpeedLaws.{unsped-not, speed-near}
 use Rattle.axis.specs.Row.{axisOf}
-use Rattle.axis_sound.specs.Sound.{statusOf, SampledAxis}
-use Rattle.axis.specs.declared.row.Axis.{Axis}
+use Rattle.axis_sound.specs.Sound.{statusOf, SoundPace}
+use Rattle.axis.specs.declared.row.Pace.{Pace}
 use Rattle.axis.specs.declared.row.Row.{Row}
 use Rattle.axis_sound.specs.declared.Status.the-variants.{Sampled, Counter}
 use Rattle.axis_sound.proofs.SoundLaws.{sampled-gives}
@@ -33,12 +33,12 @@ sign-good direction = go (eqb direction 2)
     go true = refl
     go false = refl
 
--- So is the span of a sampled axis with a period within those of a number of samples.
-span-good : {a : Axis} → SampledAxis a → 0 < a .period → goodSamples (spanOf a) ≡ true
-span-good {a} s h =
-    let t : spanOf a ≤ 2 ^ 32 - 1 = omega (arith, s .period, s .age) in
-    let o : 1 ≤ spanOf a = omega arith in
-    rw (le-leb 1 (spanOf a) o, le-leb (spanOf a) (2 ^ 32 - 1) t)
+-- So is the span of a sound pace with a period within those of a number of samples.
+span-good : {p : Pace} → SoundPace p → 0 < p .period → goodSamples (spanOf p) ≡ true
+span-good {p} s h =
+    let t : spanOf p ≤ 2 ^ 32 - 1 = omega (arith, s .period, s .age) in
+    let o : 1 ≤ spanOf p = omega arith in
+    rw (le-leb 1 (spanOf p) o, le-leb (spanOf p) (2 ^ 32 - 1) t)
 
 -- A direction other than 0 and 3.
 one-or-two : (d : ℕ) → d < 3 → (d ≡ 0 → ⊥) → (d ≡ 1) ⊎ (d ≡ 2)
@@ -48,8 +48,8 @@ one-or-two (suc (suc zero)) l some = inr refl
 one-or-two (suc (suc (suc d))) l some = absurd (let far : ⊥ = omega arith in far)
 
 module _ (rate : ℕ) (r : Row) (sampled : statusOf r ≡ Sampled) where
-  abbrev a : Axis
-  a = axisOf r
+  abbrev pace : Pace
+  pace = axisOf r .pace
 
   -- HEADLINE: on a sampled row a rate outside its limits is VALUE, whatever the period.
   pub speed-value : goodRate rate ≡ false → speedRow rate r ≡ Refused VALUE
@@ -57,22 +57,23 @@ module _ (rate : ℕ) (r : Row) (sampled : statusOf r ≡ Sampled) where
   speed-value h = rw (sampled, h)
 
   -- HEADLINE: within them a period of 0 is NO PERIOD.
-  pub speed-still : goodRate rate ≡ true → a .period ≡ 0 → speedRow rate r ≡ Refused NO-PERIOD
+  pub speed-still : goodRate rate ≡ true → pace .period ≡ 0 → speedRow rate r ≡ Refused NO-PERIOD
   unfolding speedRow speedOf
-  speed-still h z = rw (sampled, h, eq-eqb (a .period) 0 z)
+  speed-still h z = rw (sampled, h, eq-eqb (pace .period) 0 z)
 
   -- HEADLINE: any other period gives a speed: the direction's sign times 1000 F over the larger of period and age, to the nearest.
-  pub speed-moving : goodRate rate ≡ true → 0 < a .period → speedRow rate r ≡ Of (rounded (signOf (a .direction) *ℤ pos (1000 * rate)) (spanOf a))
+  pub speed-moving : goodRate rate ≡ true → 0 < pace .period →
+      speedRow rate r ≡ Of (rounded (signOf (pace .direction) *ℤ pos (1000 * rate)) (spanOf pace))
   unfolding speedRow speedOf speedByCount goodSpeed
   speed-moving h p =
-      let some = ne-eqb (a .period) 0 (λ z. let idle : ⊥ = omega arith in idle) in
-      rw (sampled, h, some, sign-good (a .direction), span-good (sampled-gives r sampled) p)
+      let some = ne-eqb (pace .period) 0 (λ z. let idle : ⊥ = omega arith in idle) in
+      rw (sampled, h, some, sign-good (pace .direction), span-good (sampled-gives r sampled .pace) p)
 
   -- HEADLINE: and then the direction is forward, 1, or back, 2.
-  pub speed-direction : 0 < a .period → (a .direction ≡ 1) ⊎ (a .direction ≡ 2)
+  pub speed-direction : 0 < pace .period → (pace .direction ≡ 1) ⊎ (pace .direction ≡ 2)
   speed-direction p =
-      let s = sampled-gives r sampled in
-      one-or-two (a .direction) (s .direction) (λ z. let idle : ⊥ = omega (arith, s .resting z) in idle)
+      let s = sampled-gives r sampled .pace in
+      one-or-two (pace .direction) (s .direction) (λ z. let idle : ⊥ = omega (arith, s .resting z) in idle)
 
 -- ---- reasons
 
@@ -84,39 +85,40 @@ count-past D T F = go (test (goodSpeed D T F))
     go (yes g) = rw g (inl refl)
     go (no g) = rw g (inr (lit< tt))
 
-speed-past : (rate : ℕ) (a : Axis) → Past (speedRefusal (speedOf rate a))
+pub speed-past : (rate : ℕ) (p : Pace) → Past (speedRefusal (speedOf rate p))
 unfolding Past speedOf
-speed-past rate a = go (test (goodRate rate)) (test (eqb (a .period) 0))
+speed-past rate p = go (test (goodRate rate)) (test (eqb (p .period) 0))
   where
-    go : Tested (goodRate rate) → Tested (eqb (a .period) 0) → Past (speedRefusal (speedOf rate a))
+    go : Tested (goodRate rate) → Tested (eqb (p .period) 0) → Past (speedRefusal (speedOf rate p))
     go (no g) t = rw g (inr (lit< tt))
     go (yes g) (yes z) = rw (g, z) (inr (lit< tt))
-    go (yes g) (no z) = rw (g, z) (count-past (signOf (a .direction)) (spanOf a) rate)
+    go (yes g) (no z) = rw (g, z) (count-past (signOf (p .direction)) (spanOf p) rate)
 
 -- HEADLINE: speed by period takes sampled rows.
 pub speed-reasons : (rate : ℕ) (r : Row) → StatusReasons (speedRefusal (speedRow rate r)) (statusOf r) (statusOf r ≡ Counter)
 unfolding speedRow
-speed-reasons rate r = sampled-only speedRefusal Refused (λ e. refl) (speedOf rate (axisOf r)) (speed-past rate (axisOf r)) (statusOf r)
+speed-reasons rate r =
+    sampled-only speedRefusal Refused (λ e. refl) (speedOf rate (axisOf r .pace)) (speed-past rate (axisOf r .pace)) (statusOf r)
 
 -- ---- what it was reckoned from
 
 -- What a speed was reckoned from.
 speed-from : (rate : ℕ) (r : Row) (v : ℤ) → speedRow rate r ≡ Of v →
-    (statusOf r ≡ Sampled) × (speedByCount (signOf (axisOf r .direction)) (spanOf (axisOf r)) rate ≡ Of v)
+    (statusOf r ≡ Sampled) × (speedByCount (signOf (axisOf r .pace .direction)) (spanOf (axisOf r .pace)) rate ≡ Of v)
 unfolding speedRow speedOf
 speed-from rate r v e =
     ⊎-elim
-    (λ h. (h .0, go (test (goodRate rate)) (test (eqb (axisOf r .period) 0)) (h .1)))
+    (λ h. (h .0, go (test (goodRate rate)) (test (eqb (axisOf r .pace .period) 0)) (h .1)))
     (λ h. absurd (unsped-not v KIND (h .1)))
-    (live Refused (speedOf rate (axisOf r)) (Refused KIND) (Of v) (unsped-not v) (statusOf r) e)
+    (live Refused (speedOf rate (axisOf r .pace)) (Refused KIND) (Of v) (unsped-not v) (statusOf r) e)
   where
-    go : Tested (goodRate rate) → Tested (eqb (axisOf r .period) 0) → speedOf rate (axisOf r) ≡ Of v →
-        speedByCount (signOf (axisOf r .direction)) (spanOf (axisOf r)) rate ≡ Of v
+    go : Tested (goodRate rate) → Tested (eqb (axisOf r .pace .period) 0) → speedOf rate (axisOf r .pace) ≡ Of v →
+        speedByCount (signOf (axisOf r .pace .direction)) (spanOf (axisOf r .pace)) rate ≡ Of v
     go (no g) t h = absurd (unsped-not v VALUE (rw g at h))
     go (yes g) (yes z) h = absurd (unsped-not v NO-PERIOD (rw (g, z) at h))
     go (yes g) (no z) h = rw (g, z) at h
 
 -- HEADLINE: with T the larger of period and age, twice |v T - 1000 F| is at most T, F with the direction's sign.
 pub speed-bound : (rate : ℕ) (r : Row) (v : ℤ) → speedRow rate r ≡ Of v →
-    2 * natAbs ((v *ℤ pos (spanOf (axisOf r))) -ℤ (signOf (axisOf r .direction) *ℤ pos (1000 * rate))) ≤ spanOf (axisOf r)
-speed-bound rate r v e = speed-near (signOf (axisOf r .direction)) (spanOf (axisOf r)) rate v (speed-from rate r v e .1)
+    2 * natAbs ((v *ℤ pos (spanOf (axisOf r .pace))) -ℤ (signOf (axisOf r .pace .direction) *ℤ pos (1000 * rate))) ≤ spanOf (axisOf r .pace)
+speed-bound rate r v e = speed-near (signOf (axisOf r .pace .direction)) (spanOf (axisOf r .pace)) rate v (speed-from rate r v e .1)

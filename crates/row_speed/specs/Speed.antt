@@ -8,7 +8,7 @@ use Rattle.reckon.specs.Speed.{goodRate, speedByCount}
 use Rattle.reckon.specs.declared.speed.Speed.{Speed}
 use Rattle.reckon.specs.declared.speed.Speed.the-variants.{Refused}
 use Rattle.axis.specs.Row.{axisOf}
-use Rattle.axis.specs.declared.row.Axis.{Axis}
+use Rattle.axis.specs.declared.row.Pace.{Pace}
 use Rattle.axis.specs.declared.row.Row.{Row}
 use Rattle.axis_sound.specs.Sound.{statusOf}
 use Rattle.row_calls.specs.Calls.{byStatus}
@@ -18,16 +18,16 @@ abbrev pub signOf : ℕ → ℤ
 signOf d = cond (eqb d 2) (negsuc 0) (pos 1)
 
 -- The samples that one count took or has taken so far: the larger of period and age.
-abbrev pub spanOf : Axis → ℕ
-spanOf a = max (a .period) (a .age)
+abbrev pub spanOf : Pace → ℕ
+spanOf p = max (p .period) (p .age)
 
--- Speed by period on a sampled row: one count over that many samples.
-unfoldable pub speedOf : ℕ → Axis → Speed
-speedOf rate a =
+-- Speed by the pace of a sampled row: one count over that many samples.
+unfoldable pub speedOf : ℕ → Pace → Speed
+speedOf rate p =
     cond (goodRate rate)
-    (cond (eqb (a .period) 0) (Refused NO-PERIOD) (speedByCount (signOf (a .direction)) (spanOf a) rate))
+    (cond (eqb (p .period) 0) (Refused NO-PERIOD) (speedByCount (signOf (p .direction)) (spanOf p) rate))
     (Refused VALUE)
 
 -- The answer of speed by period, on a sampled row only.
 unfoldable pub speedRow : ℕ → Row → Speed
-speedRow rate r = byStatus Refused (speedOf rate (axisOf r)) (Refused KIND) (statusOf r)
+speedRow rate r = byStatus Refused (speedOf rate (axisOf r .pace)) (Refused KIND) (statusOf r)

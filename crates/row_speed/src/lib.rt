@@ -2,7 +2,7 @@
 ghost use mathlib.Core.Path.{_≡_};
 ghost use Prim.Native.Nat.{max};
 ghost use Rattle.row_speed.specs.Speed.{signOf, speedOf, speedRow};
-use axis::row::Axis;
+use axis::row::Pace;
 use axis::row::Row;
 use axis_sound::Status;
 use axis_sound::open;
@@ -26,17 +26,17 @@ fn larger(period: u32, age: u32) -> u64
     period as u64
 }
 
-// The speed of a sampled axis: VALUE, then NO PERIOD.
-fn by_period(a: Axis, rate: u64) -> Speed
-    ensures { λ r. ⌜ r ≡ speedOf rate a ⌝ }
+// The speed of a pace: VALUE, then NO PERIOD.
+fn by_period(p: Pace, rate: u64) -> Speed
+    ensures { λ r. ⌜ r ≡ speedOf rate p ⌝ }
 {
     if !reckon::speed::is_rate(rate) {
         return Speed::Refused(Refusal::Value);
     }
-    if a.period == 0 {
+    if p.period == 0 {
         return Speed::Refused(Refusal::NoPeriod);
     }
-    reckon::speed::by_count(sign(a.direction), larger(a.period, a.age), rate)
+    reckon::speed::by_count(sign(p.direction), larger(p.period, p.age), rate)
 }
 
 // Speed by period, at a rate in samples a second.
@@ -50,6 +50,6 @@ pub fn speed(r: Row, rate: u64) -> Speed
         Status::Broken => Speed::Refused(Refusal::Broken),
         Status::Empty => Speed::Refused(Refusal::Empty),
         Status::Counter => Speed::Refused(Refusal::Kind),
-        Status::Sampled => by_period(axis, rate),
+        Status::Sampled => by_period(axis.pace, rate),
     }
 }

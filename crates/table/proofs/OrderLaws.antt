@@ -43,6 +43,7 @@ use Rattle.row_calls.specs.declared.answer.Changed.the-variants.{Kept}
 use Rattle.row_calls.specs.declared.answer.Done.{Done}
 use Rattle.row_calls.specs.declared.answer.Viewed.the-variants.{Refused as Unseen}
 use Rattle.row_calls.proofs.ReasonLaws.{Past, place-past}
+use Rattle.row_speed.proofs.SpeedLaws.{speed-past}
 use Rattle.row_saving.proofs.SaveLaws.{save-past}
 use Rattle.row_counter.proofs.ReadingLaws.{reading-past}
 use Rattle.table_rows.specs.Table.{axesIn, rowAt}
@@ -191,19 +192,12 @@ pub reading-late : (x : ℕ) (r : Row) → After checked Axis (refusalIn (readin
 unfolding readingRow
 reading-late x r =
     let a = axisOf r in
-    by-status refusalIn Unreckoned (λ e. refl) _ _ (inr (lit< tt)) (late (reading-past (a .width) (positionOf (a .word)) x)) (statusOf r)
-
-count-late : (D : ℤ) (T F : ℕ) → After checked Axis (speedRefusal (speedByCount D T F))
-unfolding speedByCount
-count-late D T F = either speedRefusal Axis (goodSpeed D T F) _ _ (inl refl) (inr (lit< tt))
+    by-status refusalIn Unreckoned (λ e. refl) _ _ (inr (lit< tt)) (late (reading-past (a .config .width) (positionOf (a .word)) x)) (statusOf r)
 
 pub speed-late : (rate : ℕ) (r : Row) → After checked Axis (speedRefusal (speedRow rate r))
-unfolding speedRow speedOf
+unfolding speedRow
 speed-late rate r =
-    let a = axisOf r in
-    let counted = either speedRefusal Axis (eqb (a .period) 0) (Unsped NoPeriod) (speedByCount (signOf (a .direction)) (spanOf a) rate)
-    (inr (lit< tt)) (count-late (signOf (a .direction)) (spanOf a) rate) in
-    by-status speedRefusal Unsped (λ e. refl) _ _ (either speedRefusal Axis (goodRate rate) _ _ counted (inr (lit< tt))) (inr (lit< tt)) (statusOf r)
+    by-status speedRefusal Unsped (λ e. refl) _ _ (late (speed-past rate (axisOf r .pace))) (inr (lit< tt)) (statusOf r)
 
 pub save-late : (room : ℕ) (r : Row) → After checked Axis (writtenNumber (saveRow room r))
 unfolding saveRow

@@ -8,8 +8,11 @@ field-requires c κs = search needs
 field-requires-2 : tie.Need-field-requires-2
 field-requires-2 c κs = search needs
 
+is-word-requires : tie.Need-is-word-requires
+is-word-requires c κs = search needs
+
 returns : tie.Need-returns
-returns c = rw (c .before .field .ensures, c .field2 .ensures)
+returns c = rw (c .before .before .field .ensures, c .before .field2 .ensures, c .is-word .ensures)
 
 pub is-plain-spec : {M : Type 1} → statement M
-is-plain-spec = tie.close (tie.spec field-requires field-requires-2 returns)
+is-plain-spec = tie.close (tie.spec field-requires field-requires-2 is-word-requires returns)

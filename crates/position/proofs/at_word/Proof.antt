@@ -16,7 +16,7 @@ module _ (c : tie.Start) where
   read = toZ-pos w64 (omega arith)
 
   fits : SFits w64 (positionOf (c .args .word))
-  fits = fits-size _ (omega (arith, position-small (c .args .word) (c .pre .0) (c .pre .1)))
+  fits = fits-size _ (omega (arith, position-small (c .args .word) (c .pre)))
 
 cast-result : tie.Need-cast-result
 cast-result c = search needs

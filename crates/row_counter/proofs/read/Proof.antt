@@ -1,10 +1,11 @@
 use mathlib.Core.Path.{sym, ap, _∙_}
+use mathlib.Core.Logic.{inr}
 use Rattle.axis.specs.Row.{rowOf}
 use Rattle.axis.specs.declared.row.Axis.{Axis}
 use Rattle.axis_sound.proofs.SoundLaws.{opened-narrow, opened-counter}
 use Rattle.row_calls.specs.declared.answer.Changed.the-variants.{To}
 use Rattle.row_counter.specs.Reading.{readAxis, readRow, storedRow}
-use Rattle.row_calls.proofs.StatusLaws.{counter-positioned, held-position}
+use Rattle.row_calls.proofs.StatusLaws.{live-position, held-position}
 use Rattle.row_counter.proofs.ReadingLaws.{opened-reading, read-counter, read-in-range}
 use borrow.Author.Needs.{needs}
 use Rattle.row_counter.proofs.read.Statement.{statement}
@@ -17,7 +18,7 @@ answer-requires : tie.Need-answer-requires
 answer-requires c κs e =
     let o = c .before in
     let g = opened-counter (o .before .args .r) (o .open .result) (o .open .ensures) e in
-    rw (g .1) (counter-positioned (o .before .args .r) (g .0))
+    rw (g .1) (live-position (o .before .args .r) (inr (g .0)))
 
 enum-known-said : tie.Need-enum-known-said
 enum-known-said c = search needs

@@ -19,7 +19,7 @@ returns c =
     let s = c .before .before in
     let x = s .args .x in
     let w = rw (back (s .fits .position)) at (c .before .word-of .ensures) in
-    c .pack .ensures ∙ ap (λ (n : ℕ). rowOf (changed x n (x .armed) (x .homed) (x .range) (x .index) (x .doubles))) w
+    c .pack .ensures ∙ ap (λ (n : ℕ). rowOf (changed x n (x .flags) (x .doubles))) w
 
 pub stored-spec : {M : Type 1} → statement M
 stored-spec = tie.close (tie.spec word-of-requires pack-requires returns)

@@ -1,8 +1,9 @@
 use mathlib.Core.Path.{sym, ap, _∙_}
+use mathlib.Core.Logic.{inl, inr}
 use lib.ListN.{length}
 use Rattle.record.specs.Record.{savedAs, written}
 use Rattle.row_saving.specs.Saving.{savedOf, saveRow, savedIn}
-use Rattle.row_calls.proofs.StatusLaws.{sampled-positioned, counter-positioned}
+use Rattle.row_calls.proofs.StatusLaws.{live-position}
 use Rattle.axis_sound.proofs.SoundLaws.{opened-sampled, opened-counter}
 use borrow.Author.Needs.{needs}
 use Rattle.row_saving.proofs.save.Statement.{statement}
@@ -24,7 +25,7 @@ kept-requires : tie.Need-kept-requires
 kept-requires c κs =
     let o = c .before .before .before .before in
     let g = opened-sampled (o .before .before .args .r) (o .open .result) (o .open .ensures) (c .before .enum-told3 .given .1) in
-    rw (g .1) (sampled-positioned (o .before .before .args .r) (g .0))
+    rw (g .1) (live-position (o .before .before .args .r) (inl (g .0)))
 
 save-requires : tie.Need-save-requires
 save-requires c κs = search needs
@@ -36,7 +37,7 @@ kept-requires-2 : tie.Need-kept-requires-2
 kept-requires-2 c κs =
     let o = c .before .before .before .before in
     let g = opened-counter (o .before .before .args .r) (o .open .result) (o .open .ensures) (c .before .enum-told4 .given .1) in
-    rw (g .1) (counter-positioned (o .before .before .args .r) (g .0))
+    rw (g .1) (live-position (o .before .before .args .r) (inr (g .0)))
 
 save-requires-2 : tie.Need-save-requires-2
 save-requires-2 c κs = search needs

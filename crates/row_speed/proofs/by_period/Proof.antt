@@ -23,7 +23,7 @@ returns c = rw (sym (c .before .is-rate .ensures) ∙ not-true _ (c .if1 .taken)
 
 returns-2 : tie.Need-returns-2
 unfolding speedOf
-returns-2 c = rw (good (c .before .before), eq-eqb (c .before .before .before .before .args .a .period) 0 (c .if2 .taken))
+returns-2 c = rw (good (c .before .before), eq-eqb (c .before .before .before .before .args .p .period) 0 (c .if2 .taken))
 
 sign-requires : tie.Need-sign-requires
 sign-requires c κs = search needs
@@ -40,7 +40,7 @@ returns-3 c =
     let e = c .before .before .before in
     let s = e .before .before .before .before in
     let f : SFits w64 (c .before .before .sign .result) = search needs in
-    rw (good (e .before .before), ne-eqb (s .args .a .period) 0 (e .if2 .left))
+    rw (good (e .before .before), ne-eqb (s .args .p .period) 0 (e .if2 .left))
     (c .by-count .ensures ∙ rw (back f, c .before .before .sign .ensures, c .before .larger .ensures))
 
 pub by-period-spec : {M : Type 1} → statement M

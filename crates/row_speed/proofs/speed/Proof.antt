@@ -1,5 +1,6 @@
 use mathlib.Core.Path.{sym, ap, _∙_}
 use Rattle.row_speed.specs.Speed.{speedOf, speedRow}
+use Rattle.axis.specs.declared.row.Axis.{Axis}
 use Rattle.axis_sound.proofs.SoundLaws.{opened-sampled}
 use borrow.Author.Needs.{needs}
 use Rattle.row_speed.proofs.speed.Statement.{statement}
@@ -40,7 +41,7 @@ unfolding speedRow
 returns-4 c =
     let o = c .before .before .before .before in
     let g = opened-sampled (o .before .args .r) (o .open .result) (o .open .ensures) (c .before .enum-told4 .given .1) in
-    rw (g .0) (c .by-period .ensures ∙ ap (speedOf (o .before .args .rate)) (g .1))
+    rw (g .0) (c .by-period .ensures ∙ ap (λ (a : Axis). speedOf (o .before .args .rate) (a .pace)) (g .1))
 
 pub speed-spec : {M : Type 1} → statement M
 speed-spec =

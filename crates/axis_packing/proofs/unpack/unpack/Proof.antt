@@ -18,6 +18,12 @@ runs-of-requires c κs = search needs
 pace-of-requires : tie.Need-pace-of-requires
 pace-of-requires c κs = search needs
 
+field-requires : tie.Need-field-requires
+field-requires c κs = search needs
+
+cast-t8 : tie.Need-cast-t8
+cast-t8 c = search needs
+
 returns : tie.Need-returns
 returns c = agree (search needs)
 
@@ -30,4 +36,6 @@ unpack-spec =
     levels-of-requires
     runs-of-requires
     pace-of-requires
+    field-requires
+    cast-t8
     returns)

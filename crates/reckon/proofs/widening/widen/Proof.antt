@@ -7,7 +7,7 @@ use Prim.Native.Nat.{ℕ, _^_, _≤_, _<_}
 use lib.Pow.{pow-pos, pow-mono}
 use Rattle.integers.proofs.Machine.{back}
 use Rattle.position.specs.Position.{inRange, wordOf}
-use Rattle.position.proofs.PositionLaws.{word-high}
+use Rattle.position.proofs.PositionLaws.{word-holds}
 use Rattle.reckon.specs.Widening.{goodWidth}
 use Rattle.reckon.proofs.NumberLaws.{between}
 use Rattle.reckon.proofs.WideningLaws.{bad-place, bad-reading, ahead-small, by-word}
@@ -64,7 +64,7 @@ ahead-requires c κs = (c .before .if2 .left, few (c .before))
 nearest-requires : tie.Need-nearest-requires
 nearest-requires c κs =
     let e = c .before .before in
-    (rw (c .ahead .ensures) (ahead-small _ _ _ (some e)), few e, rw (word (c .before)) (word-high _ (both (e .before .before) .1)))
+    (rw (c .ahead .ensures) (ahead-small _ _ _ (some e)), few e, rw (word (c .before)) (word-holds _ (both (e .before .before) .1) .below))
 
 returns-3 : tie.Need-returns-3
 returns-3 c =

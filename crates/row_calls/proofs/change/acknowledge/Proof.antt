@@ -28,7 +28,7 @@ enum-told-4 c = search needs
 
 pack-requires : tie.Need-pack-requires
 unfolding changed
-pack-requires c κs = let o = c .before .before .before in packs (opened-narrow (o .before .args .r) _ (o .open .ensures .1)) _ _ _ _ _ _ (lit< tt)
+pack-requires c κs = let o = c .before .before .before .before in packs (opened-narrow (o .before .args .r) _ (o .open .ensures .1)) _ _ _ (lit< tt)
 
 returns : tie.Need-returns
 unfolding acknowledgeRow
@@ -45,8 +45,8 @@ returns-3 c = rw (sym (c .before .before .before .open .ensures .0) ∙ c .enum-
 returns-4 : tie.Need-returns-4
 unfolding changed acknowledgeRow
 returns-4 c =
-    let o = c .before .before .before .before in
-    let g = opened-sampled (o .before .args .r) (o .open .result) (o .open .ensures) (c .before .enum-told4 .given .1) in
+    let o = c .before .before .before .before .before in
+    let g = opened-sampled (o .before .args .r) (o .open .result) (o .open .ensures) (c .before .before .enum-told4 .given .1) in
     rw (g .0) (ap To (c .pack .ensures ∙ ap (λ (a : Axis). rowOf (acknowledgeAxis a)) (g .1)))
 
 pub acknowledge-spec : {M : Type 1} → statement M

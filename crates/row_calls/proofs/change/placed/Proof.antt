@@ -4,6 +4,7 @@ use Prim.Native.Nat.{ℕ}
 use borrow.Author.Tests.{not-true, not-false}
 use Rattle.integers.proofs.Machine.{back}
 use Rattle.position.specs.Position.{inRange}
+use Rattle.axis.specs.Flags.{withHomed, withRange}
 use Rattle.axis.specs.Row.{rowOf}
 use Rattle.row_calls.specs.declared.answer.Changed.the-variants.{To}
 use Rattle.row_calls.specs.Change.{changed}
@@ -27,18 +28,18 @@ word-of-requires c κs = rw (back (c .before .before .fits .position)) (ok c)
 
 pack-requires : tie.Need-pack-requires
 unfolding changed
-pack-requires c κs = packs (c .before .before .before .pre) _ _ _ _ _ _ (search needs)
+pack-requires c κs = packs (c .before .before .before .before .before .pre) _ _ _ (search needs)
 
 returns-2 : tie.Need-returns-2
 unfolding changed
 returns-2 c =
-    let s = c .before .before .before .before in
+    let s = c .before .before .before .before .before .before in
     let u = s .args .x in
-    let w = rw (back (s .fits .position)) at (c .before .word-of .ensures) in
-    rw (ok (c .before .before))
+    let w = rw (back (s .fits .position)) at (c .before .before .before .word-of .ensures) in
+    rw (ok (c .before .before .before .before))
     (ap To
     (c .pack .ensures
-    ∙ ap (λ (n : ℕ). rowOf (changed u n (u .armed) false false (u .index) (u .doubles))) w))
+    ∙ ap (λ (n : ℕ). rowOf (changed u n (withRange false (withHomed false (u .flags))) (u .doubles))) w))
 
 pub placed-spec : {M : Type 1} → statement M
 placed-spec =

@@ -1,7 +1,8 @@
 use mathlib.Core.Path.{sym, ap, subst, _∙_}
+use mathlib.Core.Bool.{false}
 use lib.Dec.{lit<}
 use Rattle.axis.specs.Row.{rowOf, Narrow}
-use Rattle.axis.proofs.RowLaws.{fresh-held}
+use Rattle.axis.proofs.RowLaws.{waiting-held}
 use Rattle.row_calls.specs.declared.answer.Changed.the-variants.{To}
 use Rattle.row_calls.specs.Calls.{eraseRow}
 use borrow.Author.Needs.{needs}
@@ -12,7 +13,7 @@ erased-requires : tie.Need-erased-requires
 erased-requires c κs = search needs
 
 pack-requires : tie.Need-pack-requires
-pack-requires c κs = subst Narrow (sym (c .erased .ensures)) (fresh-held _ 0 (lit< tt) (lit< tt) (lit< tt) .narrow)
+pack-requires c κs = subst Narrow (sym (c .erased .ensures)) (waiting-held (record { kind = lit< tt; depth = lit< tt; width = lit< tt }) 0 false .narrow)
 
 returns : tie.Need-returns
 unfolding eraseRow

@@ -1,8 +1,9 @@
 use mathlib.Core.Path.{sym, ap, _∙_}
+use mathlib.Core.Logic.{inl, inr}
 use Rattle.row_calls.specs.declared.answer.Viewed.the-variants.{Shows}
 use Rattle.row_calls.specs.Answer.{viewOf}
 use Rattle.row_calls.specs.Calls.{viewRow}
-use Rattle.row_calls.proofs.StatusLaws.{sampled-positioned, counter-positioned}
+use Rattle.row_calls.proofs.StatusLaws.{live-position}
 use Rattle.axis_sound.proofs.SoundLaws.{opened-sampled, opened-counter}
 use borrow.Author.Needs.{needs}
 use Rattle.row_calls.proofs.view.view.Statement.{statement}
@@ -24,7 +25,7 @@ shown-requires : tie.Need-shown-requires
 shown-requires c κs =
     let o = c .before .before .before in
     let g = opened-sampled (o .before .args .r) (o .open .result) (o .open .ensures) (c .enum-told3 .given .1) in
-    rw (g .1) (sampled-positioned (o .before .args .r) (g .0))
+    rw (g .1) (live-position (o .before .args .r) (inl (g .0)))
 
 enum-told-4 : tie.Need-enum-told-4
 enum-told-4 c = search needs
@@ -33,7 +34,7 @@ shown-requires-2 : tie.Need-shown-requires-2
 shown-requires-2 c κs =
     let o = c .before .before .before in
     let g = opened-counter (o .before .args .r) (o .open .result) (o .open .ensures) (c .enum-told4 .given .1) in
-    rw (g .1) (counter-positioned (o .before .args .r) (g .0))
+    rw (g .1) (live-position (o .before .args .r) (inr (g .0)))
 
 returns : tie.Need-returns
 unfolding viewRow
