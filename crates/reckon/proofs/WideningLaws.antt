@@ -1,8 +1,8 @@
 -- Widening by the word that holds a position, and when each refusal comes.
 use mathlib.Core.Path.{_≡_, refl, sym, ap, _∙_}
 use mathlib.Core.Bool.{true, false, _&&_, and-eq-true-iff}
-use Prim.Native.Nat.{ℕ, _+_, _*_, _-_, _/_, _%_, _^_, _≤_, _<_}
-use native.Mathlib.Nat.{mod-lt, mod-eq-of-lt, div-add-mod', add-mul-mod-self-right}
+use Prim.Native.Nat.{ℕ, _+_, _*_, _-_, _/_, _^_, _≤_, _<_}
+use native.Mathlib.Nat.{mod-lt, div-add-mod'}
 use native.Mathlib.Omega.{arith}
 use borrow.Author.Tests.{eq-eqb, ne-eqb, lt-ltb, le-ltb, ltb-true, leb-true, leb-false, eqb-true, eqb-false}
 use lib.Dec.{ltb, leb, eqb}
@@ -13,7 +13,7 @@ use Rattle.integers.proofs.Balance.{Tested, yes, no, test, eqZ, bal-add, bal-su
 use Rattle.position.specs.Position.{inRange, isWord, positionOf, wordOf}
 use Rattle.position.proofs.PositionLaws.{range-no, position-in-range, bal-position, position-word}
 use Rattle.refusal.specs.declared.Refusal.the-variants.{Value, Half, Range}
-use Rattle.reckon.specs.declared.Reckoned.the-variants.{Number, Refused}
+use Rattle.reckon.specs.declared.Reckoned.the-variants.{Refused}
 use Rattle.reckon.specs.Widening.{goodWidth, goodReading, orRange, nearestTo, widened, aheadOf}
 use Rattle.reckon.proofs.NumberLaws.{between}
 

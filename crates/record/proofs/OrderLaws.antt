@@ -1,18 +1,16 @@
 -- The laws of a record's checks in their order.
-use mathlib.Core.Path.{_≡_, refl, sym, ap, _∙_, subst}
+use mathlib.Core.Path.{_≡_, refl, sym, _∙_, subst}
 use mathlib.Core.Bool.{Bool, true, false, not, cond, _&&_}
 use mathlib.Core.List.{List}
 use Prim.Native.Nat.{ℕ, _+_}
-use native.Mathlib.Omega.{arith}
 use lib.Dec.{T, eqb}
 use lib.ListN.{length}
 use Rattle.integers.proofs.Balance.{Tested, yes, no, test}
 use Rattle.refusal.specs.declared.Refusal.{Refusal}
 use Rattle.refusal.specs.declared.Refusal.the-variants.{Value, Layout, Record}
 use Rattle.axis.specs.declared.config.Config.{Config}
-use Rattle.record.specs.declared.answer.Saved.{Saved}
 use Rattle.record.specs.declared.answer.Read.{Read}
-use Rattle.record.specs.declared.answer.Read.the-variants.{Accepted, Refused}
+use Rattle.record.specs.declared.answer.Read.the-variants.{Accepted}
 use Rattle.tagged.specs.declared.field.Field.the-variants.{Value as Of, Bad}
 use Rattle.tagged.specs.Bytes.{numberAt, starts}
 use Rattle.tagged.specs.Field.{standsAt, fieldAt}

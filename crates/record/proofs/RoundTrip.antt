@@ -18,7 +18,7 @@ use Rattle.tagged.proofs.BytesLaws.{starts-is}
 use Rattle.tagged.proofs.FieldLaws.{behind, stands-is, field-back}
 use Rattle.record.specs.declared.answer.Saved.{Saved}
 use Rattle.record.specs.declared.answer.Read.{Read}
-use Rattle.record.specs.declared.answer.Read.the-variants.{Accepted, Refused}
+use Rattle.record.specs.declared.answer.Read.the-variants.{Accepted}
 use Rattle.record.specs.declared.axis_fields.AxisRead.{AxisRead}
 use Rattle.record.specs.declared.axis_fields.AxisRead.the-variants.{Said, Refused as Unsaid}
 use Rattle.record.specs.Opening.{opening}

@@ -4,7 +4,7 @@ use native.Mathlib.Nat.{le-refl}
 use native.Mathlib.Omega.{arith}
 use mathlib.Core.Path.{_≡_, refl, sym, ap, _∙_}
 use mathlib.Core.Logic.{_≢_, _↔_, inl, inr}
-use mathlib.Core.Bool.{Bool, true, false, cond, _&&_}
+use mathlib.Core.Bool.{Bool, true, false, cond}
 use mathlib.Core.List.{List}
 use lib.Dec.{eqb, ltb, lit<, lit≤}
 use lib.IntN.{ℤ}
@@ -15,9 +15,9 @@ use Rattle.refusal.specs.Refusal.{numberOf}
 use Rattle.refusal.specs.Order.{checked, placeIn, After}
 use Rattle.refusal.proofs.RefusalLaws.{after-not, after-sooner, after-either}
 use Rattle.refusal.specs.declared.Refusal.{Refusal}
-use Rattle.refusal.specs.declared.Refusal.the-variants.{Length, Axis, Broken as BROKEN, Empty as EMPTY, Kind as KIND, NoPeriod}
+use Rattle.refusal.specs.declared.Refusal.the-variants.{Length, Axis, Broken as BROKEN, Empty as EMPTY, Kind as KIND}
 use Rattle.reckon.specs.Reckoned.{refusalIn}
-use Rattle.reckon.specs.Speed.{speedRefusal, goodRate, goodSpeed, speedByCount}
+use Rattle.reckon.specs.Speed.{speedRefusal}
 use Rattle.reckon.specs.declared.Reckoned.the-variants.{Refused as Unreckoned}
 use Rattle.reckon.specs.declared.speed.Speed.the-variants.{Refused as Unsped}
 use Rattle.axis.specs.Limit.{mostAxes}
@@ -36,7 +36,7 @@ use Rattle.record.proofs.OrderLaws.{exactly}
 use Rattle.row_calls.specs.Answer.{doneOf, doneNumber, changedNumber, viewNumber}
 use Rattle.row_calls.specs.Calls.{byStatus, setupRow, eraseRow, presetRow, armRow, acknowledgeRow, viewRow}
 use Rattle.row_saving.specs.Saving.{savedOf, saveRow, restoreRow, restoredBy}
-use Rattle.row_speed.specs.Speed.{signOf, spanOf, speedOf, speedRow}
+use Rattle.row_speed.specs.Speed.{speedRow}
 use Rattle.row_counter.specs.Reading.{readingRow}
 use Rattle.row_calls.specs.declared.answer.Changed.{Changed}
 use Rattle.row_calls.specs.declared.answer.Changed.the-variants.{Kept}

@@ -9,7 +9,7 @@ use mir.Val.{SFits, toZ, ofZ}
 use Rattle.integers.specs.Integer.{plus, minus}
 use Rattle.integers.proofs.Balance.{ltZ-false}
 use Rattle.integers.proofs.Machine.{back, i64-fits, to-u64, abs-nonneg, bits-neg, bits-pos}
-use Rattle.tagged.proofs.TwosLaws.{short, below, short-above, short-is, short-fits}
+use Rattle.tagged.proofs.TwosLaws.{below, short-above, short-is, short-fits}
 use Rattle.tagged.proofs.twos.bits_of.Statement.{statement}
 use Rattle.tagged.proofs.twos.bits_of.Tie as tie
 
