@@ -2,13 +2,11 @@ use borrow.Author.Needs.{needs}
 use borrow.Author.Tests.{not-true, not-false}
 use mathlib.Core.Path.{_≡_, sym, _∙_, ap}
 use mathlib.Core.Bool.{true}
-use Prim.Native.Nat.{_-_, _^_, _<_}
-use native.Mathlib.Omega.{arith}
 use Rattle.integers.proofs.Machine.{back-ok}
 use Rattle.position.specs.Position.{isWord}
+use Rattle.position.proofs.PositionLaws.{word-gives}
 use Rattle.reckon.specs.declared.Reckoned.the-variants.{Number}
 use Rattle.reckon.specs.Widening.{orRange}
-use Rattle.reckon.proofs.NumberLaws.{between}
 use Rattle.reckon.proofs.WideningLaws.{word-range}
 use Rattle.reckon.proofs.widening.or_range.Statement.{statement}
 use Rattle.reckon.proofs.widening.or_range.Tie as tie
@@ -24,10 +22,7 @@ unfolding orRange
 returns c = rw (word-range (c .before .before .args .word), sym (c .before .is-word .ensures) ∙ not-true _ (c .if1 .taken))
 
 at-word-requires : tie.Need-at-word-requires
-at-word-requires c κs =
-    let w = c .before .before .args .word in
-    let in-limits : (0 < w) × (w < 2 ^ 63) = omega (arith, between 1 (2 ^ 63 - 1) w (held c)) in
-    in-limits
+at-word-requires c κs = word-gives _ (held c)
 
 returns-2 : tie.Need-returns-2
 unfolding orRange
