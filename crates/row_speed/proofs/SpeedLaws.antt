@@ -62,7 +62,8 @@ module _ (rate : ℕ) (r : Row) (sampled : statusOf r ≡ Sampled) where
   speed-still h z = rw (sampled, h, eq-eqb (a .period) 0 z)
 
   -- HEADLINE: any other period gives a speed: the direction's sign times 1000 F over the larger of period and age, to the nearest.
-  pub speed-moving : goodRate rate ≡ true → 0 < a .period → speedRow rate r ≡ Of (rounded (signOf (a .direction) *ℤ pos (1000 * rate)) (spanOf a))
+  pub speed-moving : goodRate rate ≡ true → 0 < a .period →
+      speedRow rate r ≡ Of (rounded (signOf (a .direction) *ℤ pos (1000 * rate)) (spanOf a))
   unfolding speedRow speedOf speedByCount goodSpeed
   speed-moving h p =
       let some = ne-eqb (a .period) 0 (λ z. let idle : ⊥ = omega arith in idle) in

@@ -199,7 +199,8 @@ speed-late rate r =
     let a = axisOf r in
     let counted = either speedRefusal Axis (eqb (a .period) 0) (Unsped NoPeriod) (speedByCount (signOf (a .direction)) (spanOf a) rate)
     (inr (lit< tt)) (count-late (signOf (a .direction)) (spanOf a) rate) in
-    by-status speedRefusal Unsped (λ e. refl) _ _ (either speedRefusal Axis (goodRate rate) _ _ counted (inr (lit< tt))) (inr (lit< tt)) (statusOf r)
+    by-status speedRefusal Unsped (λ e. refl) _ _ (either speedRefusal Axis (goodRate rate) _ _ counted (inr (lit< tt)))
+    (inr (lit< tt)) (statusOf r)
 
 saved-late : (room : ℕ) (s : Saved) → After Axis (writtenNumber (savedAs room s))
 unfolding savedAs

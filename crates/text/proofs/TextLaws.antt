@@ -78,7 +78,8 @@ numeral-above (pos n) e = refl
 numeral-above (negsuc n) e = absurd (subst T e tt)
 
 -- A position below zero stands behind a -.
-pub position-below : (z : ℤ) → ltZ z (pos 0) ≡ true → lineOf positionLabel (numeral z) ≡ lineOf (positionLabel ++ (MINUS ∷ [])) (decimal (natAbs z))
+pub position-below : (z : ℤ) → ltZ z (pos 0) ≡ true →
+    lineOf positionLabel (numeral z) ≡ lineOf (positionLabel ++ (MINUS ∷ [])) (decimal (natAbs z))
 unfolding lineOf
 position-below z e = rw (numeral-below z e)
 
@@ -129,7 +130,8 @@ position-room (negsuc n) f =
 
 -- The three lines in a row are the report's text.
 pub puts-text : (r : Report) {b m l d : List ℕ} {i j n : ℕ} →
-    Puts (lineOf samplesLabel (decimal (r .samples))) b 0 m i → Puts (lineOf positionLabel (numeral (r .position))) m i l j → Puts (lineOf doublesLabel (decimal (r .doubles))) l j d n →
+    Puts (lineOf samplesLabel (decimal (r .samples))) b 0 m i → Puts (lineOf positionLabel (numeral (r .position))) m i l j →
+    Puts (lineOf doublesLabel (decimal (r .doubles))) l j d n →
     Puts (textOf r) b 0 d n
 unfolding textOf
 puts-text r p q f = puts-then p (puts-then q f)

@@ -58,7 +58,8 @@ doublesLabel = 100 ∷ 111 ∷ 117 ∷ 98 ∷ 108 ∷ 101 ∷ 115 ∷ 32 ∷ []
 
 -- The three lines of a report.
 unfoldable pub textOf : Report → List ℕ
-textOf r = lineOf samplesLabel (decimal (r .samples)) ++ (lineOf positionLabel (numeral (r .position)) ++ lineOf doublesLabel (decimal (r .doubles)))
+textOf r = lineOf samplesLabel (decimal (r .samples))
+    ++ (lineOf positionLabel (numeral (r .position)) ++ lineOf doublesLabel (decimal (r .doubles)))
 
 -- What putting bytes from a place on promises: b before, d after, and the place behind them.
 pub record Puts (bytes b : List ℕ) (at : ℕ) (d : List ℕ) (next : ℕ) : Type 0 where

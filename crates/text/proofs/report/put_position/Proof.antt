@@ -12,18 +12,22 @@ use Rattle.text.proofs.report.put_position.Statement.{statement}
 use Rattle.text.proofs.report.put_position.Tie as tie
 
 module _ (c : tie.After-size) where
-  line-below : lineOf positionLabel (numeral (c .before .before .before .before .before .args .position)) ≡ lineOf (positionLabel ++ (MINUS ∷ [])) (decimal (c .size .result))
+  line-below : lineOf positionLabel (numeral (c .before .before .before .before .before .args .position))
+      ≡ lineOf (positionLabel ++ (MINUS ∷ [])) (decimal (c .size .result))
   line-below =
       let s = c .before .before .before .before .before in
       let b = back (s .fits .position) in
-      position-below _ (rw b at (c .before .before .before .if1 .taken)) ∙ ap (λ (n : ℕ). lineOf (positionLabel ++ (MINUS ∷ [])) (decimal n)) (sym (rw b at (c .size .ensures)))
+      position-below _ (rw b at (c .before .before .before .if1 .taken))
+      ∙ ap (λ (n : ℕ). lineOf (positionLabel ++ (MINUS ∷ [])) (decimal n)) (sym (rw b at (c .size .ensures)))
 
 module _ (c : tie.After-size2) where
-  line-above : lineOf positionLabel (numeral (c .before .before .before .before .before .args .position)) ≡ lineOf positionLabel (decimal (c .size2 .result))
+  line-above : lineOf positionLabel (numeral (c .before .before .before .before .before .args .position))
+      ≡ lineOf positionLabel (decimal (c .size2 .result))
   line-above =
       let s = c .before .before .before .before .before in
       let b = back (s .fits .position) in
-      position-above _ (rw b at (c .before .before .before .if1 .left)) ∙ ap (λ (n : ℕ). lineOf positionLabel (decimal n)) (sym (rw b at (c .size2 .ensures)))
+      position-above _ (rw b at (c .before .before .before .if1 .left))
+      ∙ ap (λ (n : ℕ). lineOf positionLabel (decimal n)) (sym (rw b at (c .size2 .ensures)))
 
 slice-aggregate-put-line : tie.Need-slice-aggregate-put-line
 slice-aggregate-put-line c = search needs
