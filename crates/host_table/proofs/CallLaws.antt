@@ -45,5 +45,6 @@ pub look-one : (t : List ℕ) (k : ℕ) (a b : ViewAnswer) → a ≡ answerView 
 look-one t k a b p q = one p q
 
 -- ubrenchip_speed_by_period
-pub speed-one : (rate : ℕ) (t : List ℕ) (k : ℕ) (a b : Answer) → a ≡ answerSpeed (speedIn rate t k) → b ≡ answerSpeed (speedIn rate t k) → a ≡ b
+pub speed-one : (rate : ℕ) (t : List ℕ) (k : ℕ) (a b : Answer) → a ≡ answerSpeed (speedIn rate t k) →
+    b ≡ answerSpeed (speedIn rate t k) → a ≡ b
 speed-one rate t k a b p q = one p q

@@ -13,5 +13,6 @@ pub widen-one : (width : ℕ) (position : ℤ) (reading : ℕ) (r s : Reckoned) 
 widen-one width position reading r s = one
 
 -- HEADLINE: reckon::speed::by_count.
-pub by-count-one : (difference : ℤ) (samples rate : ℕ) (r s : Speed) → r ≡ speedByCount difference samples rate → s ≡ speedByCount difference samples rate → r ≡ s
+pub by-count-one : (difference : ℤ) (samples rate : ℕ) (r s : Speed) → r ≡ speedByCount difference samples rate →
+    s ≡ speedByCount difference samples rate → r ≡ s
 by-count-one difference samples rate r s = one

@@ -43,17 +43,21 @@ module _ (w : ℕ) (W p : ℤ) where
   sides : t < m → ((ahead ≡ t) × (W +ℤ pos t ≡ p)) ⊎ ((ahead ≡ m - t) × ((W +ℤ pos (m - t)) -ℤ pos m ≡ p))
   sides l = ⊎-elim up (λ e. down e (test (ltb 0 t))) (far-cases p W)
     where
-      up : plus p + minus W ≡ t + (plus W + minus p) → ((ahead ≡ t) × (W +ℤ pos t ≡ p)) ⊎ ((ahead ≡ m - t) × ((W +ℤ pos (m - t)) -ℤ pos m ≡ p))
+      up : plus p + minus W ≡ t + (plus W + minus p) →
+          ((ahead ≡ t) × (W +ℤ pos t ≡ p)) ⊎ ((ahead ≡ m - t) × ((W +ℤ pos (m - t)) -ℤ pos m ≡ p))
       up e = inl (
-        mod-turns {z = pos r -ℤ W} {t = t} (pow-pos w) (record { up = low .down; down = low .up; is = omega (arith, low .is, bal-sub (pos r) W) })
+        mod-turns {z = pos r -ℤ W} {t = t} (pow-pos w)
+            (record { up = low .down; down = low .up; is = omega (arith, low .is, bal-sub (pos r) W) })
             ∙ mod-eq-of-lt l,
         eqZ _ _ (omega (arith, bal-add W (pos t))),
       )
 
-      down : plus W + minus p ≡ t + (plus p + minus W) → Tested (ltb 0 t) → ((ahead ≡ t) × (W +ℤ pos t ≡ p)) ⊎ ((ahead ≡ m - t) × ((W +ℤ pos (m - t)) -ℤ pos m ≡ p))
+      down : plus W + minus p ≡ t + (plus p + minus W) → Tested (ltb 0 t) →
+          ((ahead ≡ t) × (W +ℤ pos t ≡ p)) ⊎ ((ahead ≡ m - t) × ((W +ℤ pos (m - t)) -ℤ pos m ≡ p))
       down e (no z) = up (omega (arith, ltb-false 0 t z))
       down e (yes z) = let some = ltb-true 0 t z in inr (
-        mod-turns {z = pos r -ℤ W} {t = m - t} (pow-pos w) (record { up = low .down + 1; down = low .up; is = omega (arith, low .is, bal-sub (pos r) W) })
+        mod-turns {z = pos r -ℤ W} {t = m - t} (pow-pos w)
+            (record { up = low .down + 1; down = low .up; is = omega (arith, low .is, bal-sub (pos r) W) })
             ∙ mod-eq-of-lt (omega arith),
         eqZ _ _ (omega (arith, bal-add W (pos (m - t)), bal-sub (W +ℤ pos (m - t)) (pos m))),
       )
@@ -67,7 +71,8 @@ module _ (w : ℕ) (W p : ℤ) (good : goodReading w W (modZ p (2 ^ w)) ≡ true
   near-position : 2 * natAbs (p -ℤ W) < 2 ^ w → widened w W (modZ p (2 ^ w)) ≡ orRange p
   near-position near =
       sym near-is
-      ∙ ⊎-elim (λ h. rw (h .0) (below-half _ W p _ near (h .1))) (λ h. rw (h .0) (above-half _ W p _ (omega arith) (h .1))) (sides w W p (omega arith))
+      ∙ ⊎-elim (λ h. rw (h .0) (below-half _ W p _ near (h .1))) (λ h. rw (h .0) (above-half _ W p _ (omega arith) (h .1)))
+      (sides w W p (omega arith))
 
   half-position : 2 * natAbs (p -ℤ W) ≡ 2 ^ w → widened w W (modZ p (2 ^ w)) ≡ Refused Half
   half-position h =

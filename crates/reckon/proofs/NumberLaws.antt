@@ -16,11 +16,14 @@ between a b x h = let e = and-eq-true-iff (leb a x) (leb x b) .0 h in (leb-true 
 
 -- ---- distances
 
-pub far-cases : (x y : ℤ) → (plus x + minus y ≡ natAbs (x -ℤ y) + (plus y + minus x)) ⊎ (plus y + minus x ≡ natAbs (x -ℤ y) + (plus x + minus y))
+pub far-cases : (x y : ℤ) → (plus x + minus y ≡ natAbs (x -ℤ y) + (plus y + minus x))
+    ⊎ (plus y + minus x ≡ natAbs (x -ℤ y) + (plus x + minus y))
 far-cases x y =
-    ⊎-elim (λ e. inl (omega (arith, e, abs-is (x -ℤ y), bal-sub x y))) (λ e. inr (omega (arith, e, abs-is (x -ℤ y), bal-sub x y))) (sign (x -ℤ y))
+    ⊎-elim (λ e. inl (omega (arith, e, abs-is (x -ℤ y), bal-sub x y))) (λ e. inr (omega (arith, e, abs-is (x -ℤ y), bal-sub x y)))
+    (sign (x -ℤ y))
 
-pub far-sub : (x y : ℤ) → (plus x + minus y ≤ natAbs (x -ℤ y) + (plus y + minus x)) × (plus y + minus x ≤ natAbs (x -ℤ y) + (plus x + minus y))
+pub far-sub : (x y : ℤ) → (plus x + minus y ≤ natAbs (x -ℤ y) + (plus y + minus x))
+    × (plus y + minus x ≤ natAbs (x -ℤ y) + (plus x + minus y))
 far-sub x y = ⊎-elim (λ e. omega (arith, e)) (λ e. omega (arith, e)) (far-cases x y)
 
 -- ---- negatives

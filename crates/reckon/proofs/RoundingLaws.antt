@@ -94,7 +94,8 @@ module _ (a t : ℕ) (some : 0 < t) where
 
   -- what rounds it, at or above zero too
   up-sides : (b : ℕ) → Rounds (pos a) t (pos b) → (2 * (b * t) ≤ 2 * a + t) × (2 * a + t < 2 * (b * t) + 2 * t)
-  up-sides b h = ⊎-elim (λ e. omega (arith, e, h .near)) (λ e. go (omega (arith, e)) (test (ltb (2 * d) t))) (far-cases (pos b *ℤ pos t) (pos a))
+  up-sides b h = ⊎-elim (λ e. omega (arith, e, h .near)) (λ e. go (omega (arith, e)) (test (ltb (2 * d) t)))
+      (far-cases (pos b *ℤ pos t) (pos a))
     where
       d : ℕ
       d = natAbs ((pos b *ℤ pos t) -ℤ pos a)

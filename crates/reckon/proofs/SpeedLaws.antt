@@ -52,7 +52,8 @@ product-small D T F k =
       arith,
       abs-is (D *ℤ pos (1000 * F)),
       bal-scale D (1000 * F),
-      mul-le-mul {n₁ = plus D + minus D} {m₁ = 1000 * F} {n₂ = 2 ^ 31 - 1} {m₂ = 1000000000} (omega (arith, abs-is D, k .count)) (omega (arith, k .rate)),
+      mul-le-mul {n₁ = plus D + minus D} {m₁ = 1000 * F} {n₂ = 2 ^ 31 - 1} {m₂ = 1000000000} (omega (arith, abs-is D, k .count))
+          (omega (arith, k .rate)),
     )
 
 -- ---- both bounds

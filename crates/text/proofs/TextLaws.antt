@@ -65,7 +65,8 @@ numeral-above (pos n) e = refl
 numeral-above (negsuc n) e = absurd (subst T e tt)
 
 -- A position below zero stands behind a -.
-pub position-below : (z : ℤ) → ltZ z (pos 0) ≡ true → lineOf positionLabel (numeral z) ≡ lineOf (positionLabel ++ (MINUS ∷ [])) (decimal (natAbs z))
+pub position-below : (z : ℤ) → ltZ z (pos 0) ≡ true →
+    lineOf positionLabel (numeral z) ≡ lineOf (positionLabel ++ (MINUS ∷ [])) (decimal (natAbs z))
 unfolding lineOf
 position-below z e = rw (numeral-below z e)
 

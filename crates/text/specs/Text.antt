@@ -58,7 +58,8 @@ doublesLabel = 100 ∷ 111 ∷ 117 ∷ 98 ∷ 108 ∷ 101 ∷ 115 ∷ 32 ∷ []
 
 -- The three lines of a report.
 unfoldable pub textOf : Report → List ℕ
-textOf r = lineOf samplesLabel (decimal (r .samples)) ++ (lineOf positionLabel (numeral (r .position)) ++ lineOf doublesLabel (decimal (r .doubles)))
+textOf r = lineOf samplesLabel (decimal (r .samples))
+    ++ (lineOf positionLabel (numeral (r .position)) ++ lineOf doublesLabel (decimal (r .doubles)))
 
 -- What writing a report promises: its text at the front of the buffer and no other byte, the number of its bytes, and that they fit.
 pub record Writes (r : Report) (b d : List ℕ) (n : ℕ) : Type 0 where

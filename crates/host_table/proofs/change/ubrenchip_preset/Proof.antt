@@ -15,7 +15,8 @@ same-length c = search needs
 returns : tie.Need-returns
 returns c =
     let start = c .before .before .before .before .before .before in
-    record { said = _; claimed = rw (back (start .fits .position)) at (c .before .before .before .preset .ensures); answer = c .of-done .ensures }
+    let made = rw (back (start .fits .position)) at (c .before .before .before .preset .ensures) in
+    record { said = _; claimed = made; answer = c .of-done .ensures }
 
 pub ubrenchip-preset-spec : {M : Type 1} → statement M
 ubrenchip-preset-spec = tie.close (tie.spec preset-requires of-done-requires same-length returns)

@@ -19,7 +19,8 @@ use Rattle.reckon.proofs.speed.by_count.Tie as tie
 
 -- the three tests are the one of the definition
 tested : (c : tie.After-is-rate) → let a = c .before .before .before .args in
-    (c .before .before .is-count .result && c .before .is-samples .result && c .is-rate .result) ≡ goodSpeed (a .difference) (a .samples) (a .rate)
+    (c .before .before .is-count .result && c .before .is-samples .result && c .is-rate .result)
+    ≡ goodSpeed (a .difference) (a .samples) (a .rate)
 unfolding goodSpeed
 tested c =
     let s = c .before .before .before in

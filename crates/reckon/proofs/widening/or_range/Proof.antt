@@ -26,7 +26,8 @@ at-word-requires c κs = word-gives _ (held c)
 
 returns-2 : tie.Need-returns-2
 unfolding orRange
-returns-2 c = rw (word-range (c .before .before .before .args .word), held (c .before)) (ap Number (back-ok (c .at-word .ok) ∙ c .at-word .ensures))
+returns-2 c = rw (word-range (c .before .before .before .args .word), held (c .before))
+    (ap Number (back-ok (c .at-word .ok) ∙ c .at-word .ensures))
 
 pub or-range-spec : {M : Type 1} → statement M
 or-range-spec = tie.close (tie.spec is-word-requires returns at-word-requires returns-2)
