@@ -138,7 +138,8 @@ module _ {r : Row} (words : Words r) where
 
     -- ---- the events
 
-    sets : (kind depth width turn : ℕ) → Tells r (afterChange p (Setup kind depth width turn)) (leftBy now (setupRow kind depth width turn now))
+    sets : (kind depth width turn : ℕ) → Tells r (afterChange p (Setup kind depth width turn))
+        (leftBy now (setupRow kind depth width turn now))
     unfolding afterChange setupRow wordOf inRange
     sets kind depth width turn =
         by-test (goodConfig kind depth width turn) _ _ _ (λ good. starts (made (configOf kind depth width turn) (pos 0) good refl))

@@ -58,7 +58,8 @@ module _ (t : List ℕ) (k : ℕ) (h : k < axesIn (length t)) where
       go false e = other-row t j k o (λ q. eqb-false j k e (sym q))
 
   -- what axis k is told by a call is what its row alone is told by k's own part
-  sample-heard : (word : ℕ) (a : Sampled) → sampledAnswer t word ≡ a → bitsOf k a ≡ marks (marksOf (stepRow (rowAt t k) (nibble word k))) ∷ []
+  sample-heard : (word : ℕ) (a : Sampled) → sampledAnswer t word ≡ a →
+      bitsOf k a ≡ marks (marksOf (stepRow (rowAt t k) (nibble word k))) ∷ []
   unfolding bitsOf
   sample-heard word (Seen m) e =
       let b = sample-bits t word k h m e in

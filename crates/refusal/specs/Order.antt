@@ -14,7 +14,7 @@ use Rattle.refusal.specs.declared.Refusal.the-variants.{Half, Range, NoP
 abbrev pub checked : List Refusal
 checked = Length ∷ Axis ∷ Broken ∷ Empty ∷ Kind ∷ Value ∷ Half ∷ Range ∷ NoPeriod ∷ Room ∷ Layout 0 ∷ Record ∷ []
 
--- The place in an order of the reason with a number: how many come before it there.
+-- The place in an order of the reason with a number: how many come before it there; one that is not in the order comes after all.
 abbrev pub placeIn : List Refusal → ℕ → ℕ
 placeIn [] n = 0
 placeIn (e ∷ order) n = cond (eqb n (numberOf e)) 0 (suc (placeIn order n))

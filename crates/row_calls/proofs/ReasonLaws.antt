@@ -64,7 +64,8 @@ apart s t e h = eqb-false (rank s) (rank t) e (ap rank h)
 
 module _ {A : Type 0} (number : A → ℕ) (refuse : Refusal → A) (same : (e : Refusal) → number (refuse e) ≡ numberOf e) where
   -- By the row's status: BROKEN, EMPTY, and past these what the call answers on the two kinds.
-  by-reasons : (wrong : Status → Type 0) → (wrong Broken → ⊥) → (wrong Empty → ⊥) → (sampled counter : A) → Later (number sampled) (wrong Sampled) →
+  by-reasons : (wrong : Status → Type 0) → (wrong Broken → ⊥) → (wrong Empty → ⊥) → (sampled counter : A) →
+      Later (number sampled) (wrong Sampled) →
       Later (number counter) (wrong Counter) → (s : Status) → StatusReasons (number (byStatus refuse sampled counter s)) s (wrong s)
   unfolding rank
   by-reasons wrong b e sampled counter onS onC Broken = record {
@@ -94,14 +95,16 @@ module _ {A : Type 0} (number : A → ℕ) (refuse : Refusal → A) (same : (e :
   both-kinds sampled counter onS onC = by-reasons (λ _. ⊥) (λ w. w) (λ w. w) sampled counter (right onS (λ w. w)) (right onC (λ w. w))
 
   -- A call on sampled rows only.
-  pub sampled-only : (sampled : A) → Past (number sampled) → (s : Status) → StatusReasons (number (byStatus refuse sampled (refuse KIND) s)) s (s ≡ Counter)
+  pub sampled-only : (sampled : A) → Past (number sampled) → (s : Status) →
+      StatusReasons (number (byStatus refuse sampled (refuse KIND) s)) s (s ≡ Counter)
   unfolding rank
   sampled-only sampled onS =
       by-reasons (λ s. s ≡ Counter) (apart Broken Counter refl) (apart Empty Counter refl) sampled (refuse KIND)
       (right onS (apart Sampled Counter refl)) (rw (same KIND) (wrongly refl))
 
   -- A call on counters only.
-  pub counters-only : (counter : A) → Past (number counter) → (s : Status) → StatusReasons (number (byStatus refuse (refuse KIND) counter s)) s (s ≡ Sampled)
+  pub counters-only : (counter : A) → Past (number counter) → (s : Status) →
+      StatusReasons (number (byStatus refuse (refuse KIND) counter s)) s (s ≡ Sampled)
   unfolding rank
   counters-only counter onC =
       by-reasons (λ s. s ≡ Sampled) (apart Broken Sampled refl) (apart Empty Sampled refl) (refuse KIND) counter
