@@ -86,7 +86,8 @@ sampled-good : (c : Config) → SampledSetting c → goodConfig (c .kind) (c .de
 unfolding goodConfig
 sampled-good c s = rw (sampled-passes c s)
 
-counter-good : (c : Config) → counterConfig (c .kind) (c .depth) (c .width) (c .turn) ≡ true → goodConfig (c .kind) (c .depth) (c .width) (c .turn) ≡ true
+counter-good : (c : Config) → counterConfig (c .kind) (c .depth) (c .width) (c .turn) ≡ true →
+    goodConfig (c .kind) (c .depth) (c .width) (c .turn) ≡ true
 unfolding goodConfig
 counter-good c e =
     either (sampledConfig (c .kind) (c .depth) (c .width) (c .turn)) (counterConfig (c .kind) (c .depth) (c .width) (c .turn)) (λ _. e)

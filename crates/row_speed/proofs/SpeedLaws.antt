@@ -69,7 +69,8 @@ module _ (rate : ℕ) (r : Row) (sampled : statusOf r ≡ Sampled) where
   unfolding speedRow speedOf
   speed-moving h p =
       rw (sampled, h, ne-eqb (pace .period) 0 (λ z. let idle : ⊥ = omega arith in idle))
-      (sym (good-speed (signOf (pace .direction)) (spanOf pace) rate (sign-good (pace .direction)) (span-good (sampled-gives r sampled .pace) p) h))
+      (sym (good-speed (signOf (pace .direction)) (spanOf pace) rate
+      (sign-good (pace .direction)) (span-good (sampled-gives r sampled .pace) p) h))
 
   -- HEADLINE: and then the direction is forward, 1, or back, 2.
   pub speed-direction : 0 < pace .period → (pace .direction ≡ 1) ⊎ (pace .direction ≡ 2)
@@ -99,7 +100,9 @@ speed-past rate p = go (test (goodRate rate)) (test (eqb (p .period) 0))
 -- HEADLINE: speed by period takes sampled rows.
 pub speed-reasons : (rate : ℕ) (r : Row) → Told (refusalIn (speedRow rate r)) (statusOf r) (statusOf r ≡ Counter)
 unfolding speedRow
-speed-reasons rate r = sampled-only refusalIn Refused (λ e. refl) (speedOf rate (axisOf r .pace)) (speed-past rate (axisOf r .pace)) (statusOf r)
+speed-reasons rate r =
+    let pace = axisOf r .pace in
+    sampled-only refusalIn Refused (λ e. refl) (speedOf rate pace) (speed-past rate pace) (statusOf r)
 
 -- ---- what it was reckoned from
 
