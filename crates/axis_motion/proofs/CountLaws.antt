@@ -81,7 +81,8 @@ holds Forward w r k h =
     h
 holds Back w r k h =
     held-by (ltb 1 w) r w (w - 1) (positionOf w +ℤ negsuc 0)
-    (λ t. ap inRange (sym (down w (k .above))) ∙ position-in-range (w - 1) (record { above = omega (arith, ltb-true); below = omega (arith, k .below) }))
+    (λ t. ap inRange (sym (down w (k .above)))
+    ∙ position-in-range (w - 1) (record { above = omega (arith, ltb-true); below = omega (arith, k .below) }))
     h
 
 -- HEADLINE: a count that leaves RANGE clear found it clear, and moves the position by what the entry is worth.

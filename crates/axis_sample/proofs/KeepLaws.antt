@@ -2,9 +2,10 @@
 use Prim.Native.Nat.{ℕ, _^_, _<_}
 use mathlib.Core.Path.{_≡_, refl, sym}
 use mathlib.Core.Bool.{Bool, true, false, cond, not, _&&_, _||_, true≢false}
-use lib.Dec.{ltb, lit<}
+use lib.Dec.{ltb}
 use borrow.Author.Tests.{ltb-true}
 use Rattle.position.specs.Position.{Word}
+use Rattle.position.proofs.PositionLaws.{origin-holds}
 use Rattle.axis.specs.declared.row.Axis.{Axis}
 use Rattle.axis.specs.declared.row.Pace.{Pace}
 use Rattle.axis_sound.specs.Sound.{SoundPace, SampledAxis}
@@ -43,7 +44,7 @@ index-step false false turn o h e = absurd (true≢false (sym e))
 
 -- Homing leaves a word that holds a position.
 home-word : (b : Bool) {w : ℕ} → Word w → Word (cond b (2 ^ 62) w)
-home-word true h = record { above = lit< tt; below = lit< tt }
+home-word true h = origin-holds
 home-word false h = h
 
 -- A sound pace is one after an entry.

@@ -72,7 +72,8 @@ module _ (r : Row) (nibble : ℕ) where
       go Empty e = rw (empty-stays e) h
       go Sampled e =
           let g = sampled-after e in
-          rw (row-steps e) (held-words (stepAxis (axisOf r) (rawOf nibble) .axis) (sampled-held g) (omega (arith, g .word)) (omega (arith, g .config .turn)))
+          let a = stepAxis (axisOf r) (rawOf nibble) .axis in
+          rw (row-steps e) (held-words a (sampled-held g) (omega (arith, g .word)) (omega (arith, g .config .turn)))
       go Counter e = rw (counter-stays e) h
       go Broken e = rw (broken-stays e) h
 

@@ -89,7 +89,8 @@ pub bare-waits : (r : Row) → Plain r → flagOf 14 (r .w1) ≡ false → field
 bare-waits r p primed z age period =
     let a = axisOf r in
     let h = row-held r in
-    let tail : drop 5 (fieldsOf a) ≡ map (λ (k : ℕ). 0) fromHomed = ap (drop 5) (fields-again r (p .low) (p .high)) ∙ zero-split 16 fromHomed (r .w1) z in
+    let again = fields-again r (p .low) (p .high) in
+    let tail : drop 5 (fieldsOf a) ≡ map (λ (k : ℕ). 0) fromHomed = ap (drop 5) again ∙ zero-split 16 fromHomed (r .w1) z in
     same-row h (waiting-held (h .narrow .config) (a .word) (a .flags .armed)) (λ i. record {
       w0 = r .w0;
       w1 = join 0 layout (a .config .kind ∷ a .config .depth ∷ a .config .width ∷ bitOf (primed i) ∷ bitOf (a .flags .armed) ∷ tail i);
@@ -109,7 +110,8 @@ ready-test r p false e =
     (λ b.
     let h2 = both _ (eqb (a .pace .period) 0) b in
     let h1 = both (eqb (fieldOf 16 48 (r .w1)) 0) (eqb (a .pace .age) 0) (h2 .0) in
-    waiting-from (bare-waits r p e (eqb-true (fieldOf 16 48 (r .w1)) 0 (h1 .0)) (eqb-true (a .pace .age) 0 (h1 .1)) (eqb-true (a .pace .period) 0 (h2 .1))))
+    let z = eqb-true (fieldOf 16 48 (r .w1)) 0 (h1 .0) in
+    waiting-from (bare-waits r p e z (eqb-true (a .pace .age) 0 (h1 .1)) (eqb-true (a .pace .period) 0 (h2 .1))))
     (λ b.
     let h = waiting-gives (row-held r) b in
     rw (
@@ -163,7 +165,8 @@ sound-pace p direction age e =
     record {
       direction = omega arith;
       period = leb-true (p .period) (2 ^ 32 - 2) (h1 .1);
-      resting = λ z. eqb-true (p .period) 0 (otherwise (not (eqb (p .direction) 0)) (eqb (p .period) 0) (h2 .1) (rw (eq-eqb (p .direction) 0 z)));
+      resting = λ z.
+          eqb-true (p .period) 0 (otherwise (not (eqb (p .direction) 0)) (eqb (p .period) 0) (h2 .1) (rw (eq-eqb (p .direction) 0 z)));
       age = age;
     }
 

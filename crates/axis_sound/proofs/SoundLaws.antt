@@ -1,5 +1,5 @@
 -- The laws of sound rows: what each status says of the row and of its axis, and which axes make such a row.
-use Prim.Native.Nat.{ℕ, _+_, _^_, _<_, _≤_}
+use Prim.Native.Nat.{ℕ, _^_, _<_, _≤_}
 use native.Mathlib.Omega.{arith}
 use mathlib.Core.Path.{_≡_, refl, sym, ap, subst, _∙_}
 use mathlib.Core.Logic.{_↔_, _⊎_, inl, inr, ⊎-elim}
@@ -7,8 +7,8 @@ use mathlib.Core.Bool.{Bool, true, false, cond, not, _&&_, _||_, and-false, true
 use lib.Dec.{eqb, lit<}
 use borrow.Author.Tests.{eqb-true, not-true, ne-eqb, le-leb}
 use Rattle.position.specs.Position.{Word}
-use Rattle.fields.specs.Field.{fieldOf, flagOf}
-use Rattle.fields.proofs.BitLaws.{part-zero}
+use Rattle.fields.specs.Field.{fieldOf}
+use Rattle.fields.proofs.BitLaws.{part-zero, part-clear}
 use Rattle.axis.specs.declared.config.Config.{Config}
 use Rattle.axis.specs.declared.row.Axis.{Axis}
 use Rattle.axis.specs.declared.row.Row.{Row}
@@ -142,7 +142,8 @@ counter-config {a} c =
 
 -- The row of an axis that a row can hold has 0 in the bits without a name.
 held-plain : (a : Axis) → Held a → Word (a .word) → a .config .turn < 2 ^ 32 → isPlain (rowOf a) ≡ true
-held-plain a h word turn = plain-from (rowOf a) (record { word = word; low = back a (h .narrow) 14; high = back a (h .narrow) 17; turn = turn })
+held-plain a h word turn =
+    plain-from (rowOf a) (record { word = word; low = back a (h .narrow) 14; high = back a (h .narrow) 17; turn = turn })
 
 -- A configuration is a sampled one or a counter's.
 pub good-cases : (c : Config) → goodConfig (c .kind) (c .depth) (c .width) (c .turn) ≡ true → SampledSetting c ⊎ CounterSetting c
@@ -208,7 +209,9 @@ unfolding passes
 sampled-from {a} s =
     let h = sampled-held s in
     status-of Sampled (rowOf a)
-    (ap (λ (b : Axis). isPlain (rowOf a) && sampledConfig (b .config .kind) (b .config .depth) (b .config .width) (b .config .turn) && isConsistent b) (comes-back a h)
+    (ap (λ (b : Axis).
+    isPlain (rowOf a) && sampledConfig (b .config .kind) (b .config .depth) (b .config .width) (b .config .turn) && isConsistent b)
+    (comes-back a h)
     ∙ rw (held-plain a h (s .word) (s .config .turn), sampled-passes (a .config) (s .config), sampled-consistent s))
 
 -- HEADLINE: the axis of a counter row is a counter as setup leaves it, at some position.
@@ -216,14 +219,15 @@ pub counter-gives : (r : Row) → statusOf r ≡ Counter → CounterAxis (axisOf
 unfolding passes
 counter-gives r e =
     let h = counter-parts r (passes-of Counter r e) in
-    let bit : (above d : ℕ) → fieldOf 14 (above + 1 + d) (r .w1) ≡ 0 → flagOf (14 + d) (r .w1) ≡ false = λ above d z. ap (λ (x : ℕ). eqb x 1) (part-zero 14 above 1 d (r .w1) z) in
-    let waits = bare-waits r (h .0) (bit 49 0 (h .2)) (part-zero 14 0 48 2 (r .w1) (h .2)) (ap (fieldOf 0 32) (h .3)) (ap (fieldOf 32 32) (h .3)) in
+    let primed = part-clear 14 49 0 (r .w1) (h .2) in
+    let armed = part-clear 14 48 1 (r .w1) (h .2) in
+    let waits = bare-waits r (h .0) primed (part-zero 14 0 48 2 (r .w1) (h .2)) (ap (fieldOf 0 32) (h .3)) (ap (fieldOf 32 32) (h .3)) in
     let same = same-config (record { kind = h .1 .kind; depth = h .1 .depth; width = refl; turn = h .1 .turn }) in
     record {
       word = h .0 .word;
       narrow = h .1 .narrow;
       wide = h .1 .wide;
-      rest = waits ∙ (λ i. waiting (same i) (r .w0) (bit 48 1 (h .2) i));
+      rest = waits ∙ (λ i. waiting (same i) (r .w0) (armed i));
     }
 
 -- What any row opens to is within its widths.

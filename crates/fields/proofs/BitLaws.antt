@@ -3,10 +3,11 @@ use Prim.Native.Nat.{ℕ, _+_, _*_, _-_, _/_, _%_, _^_, _<_}
 use native.Mathlib.Nat.{one-mul, mod-lt, mod-eq-of-lt, add-comm, zero-div, zero-mod}
 use native.Mathlib.Omega.{arith}
 use mathlib.Core.Path.{_≡_, sym, ap, _∙_}
-use lib.Dec.{lit<}
+use mathlib.Core.Bool.{false}
+use lib.Dec.{eqb, lit<}
 use lib.Pow.{field, mod-mod-pow, pow-pos, shl-exact, shr-shr}
 use lib.Bits.{bitAnd, bitOr, and-mask, or-shifted-r}
-use Rattle.fields.specs.Field.{fieldOf}
+use Rattle.fields.specs.Field.{fieldOf, flagOf}
 
 -- The one that a mask is made of is shifted with no bit lost.
 pub one-shl : (width : ℕ) → width < 64 → 1 * 2 ^ width % 2 ^ 64 ≡ 2 ^ width
@@ -35,3 +36,7 @@ part at above k d w =
 pub part-zero : (at above k d w : ℕ) → fieldOf at (above + k + d) w ≡ 0 → fieldOf (at + d) k w ≡ 0
 part-zero at above k d w h =
     sym (part at above k d w) ∙ ap (fieldOf d k) h ∙ rw (zero-div (2 ^ d), zero-mod (2 ^ k))
+
+-- Each flag in it is clear.
+pub part-clear : (at above d w : ℕ) → fieldOf at (above + 1 + d) w ≡ 0 → flagOf (at + d) w ≡ false
+part-clear at above d w h = ap (λ (x : ℕ). eqb x 1) (part-zero at above 1 d w h)

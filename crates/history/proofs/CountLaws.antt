@@ -31,7 +31,8 @@ module _ (p : ℤ) (e : inRange p ≡ true) (m : Move) where
           (countedWord m (wordOf p) ≡ wordOf (cond (not b) p (p +ℤ worth m))) × (countedRange m (wordOf p) r ≡ (r || not b))
       go true f =
           let k = moves m (wordOf p) r (rw back f) in
-          (sym (word-position (countedWord m (wordOf p)) (count-keeps m (wordOf p) (word-holds p e))) ∙ ap wordOf (k .0 ∙ ap (λ (z : ℤ). z +ℤ worth m) back), k .1 ∙ sym (or-false r))
+          let same = word-position (countedWord m (wordOf p)) (count-keeps m (wordOf p) (word-holds p e)) in
+          (sym same ∙ ap wordOf (k .0 ∙ ap (λ (z : ℤ). z +ℤ worth m) back), k .1 ∙ sym (or-false r))
       go false f = let k = held m (wordOf p) r (word-holds p e) (rw back f) in (k .0, k .1 ∙ sym (or-true r))
 
   -- The word after an entry is that of the position, which moves unless the entry is held.

@@ -75,7 +75,8 @@ module _ {r : Row} (words : Words r) where
       go Empty e = refl
       go Sampled e = sym (ap rowOf (told-first (axisOf s) (start-sound s e)) ∙ again (λ f. let z : _≡_ {A = ℕ} 0 1 = cc in omega arith))
       go Counter e =
-          sym (ap (λ (w : ℕ). record { w0 = w; w1 = word1Of (axisOf s); w2 = word2Of (axisOf s); w3 = s .w3 }) (word-position (s .w0) (counter-gives s e .word))
+          let same = word-position (s .w0) (counter-gives s e .word) in
+          sym (ap (λ (w : ℕ). record { w0 = w; w1 = word1Of (axisOf s); w2 = word2Of (axisOf s); w3 = s .w3 }) same
           ∙ again (λ f. let z : _≡_ {A = ℕ} 0 1 = cc in omega arith))
       go Broken e = refl
 
@@ -112,7 +113,8 @@ module _ {r : Row} (words : Words r) where
         }
 
     -- What a reading says of the row, it says of the phase's place.
-    pub reading-told : (x : ℕ) → statusOf (p .start) ≡ Counter → readingOf x (axisOf now) ≡ widened (axisOf (p .start) .config .width) (p .place) x
+    pub reading-told : (x : ℕ) → statusOf (p .start) ≡ Counter →
+        readingOf x (axisOf now) ≡ widened (axisOf (p .start) .config .width) (p .place) x
     unfolding changed
     reading-told x e =
         ap (readingOf x) (counter-now e)

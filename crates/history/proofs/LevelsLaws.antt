@@ -51,7 +51,10 @@ pub level-one : (x : Axis) (w : Wire) (s : Raw) (h : List Act) → x .config .de
 level-one x w s h d = go (primedAt x h) refl
   where
     go : (b : Bool) → primedAt x h ≡ b → levelAt x w (sampled s ∷ h) ≡ levelOf s w
-    go true q = level-next x w s h q ∙ latest-full (x .config .depth) (since x w h .level) (levelOf s w) (since x w h .raws) (omega (arith, streak-same (levelOf s w) (since x w h .raws)))
+    go true q =
+        let raws = since x w h .raws in
+        level-next x w s h q
+        ∙ latest-full (x .config .depth) (since x w h .level) (levelOf s w) raws (omega (arith, streak-same (levelOf s w) raws))
     go false q = level-prime x w s h q
 
 module _ (x : Axis) (start : Start x) where
@@ -59,7 +62,8 @@ module _ (x : Axis) (start : Start x) where
   deep = omega (arith, start .short A)
 
   pub run-short : (w : Wire) (h : List Act) → runAt x w h < x .config .depth
-  run-short w h = rw (ap (λ (l : Line). l .run) (line-is x w h)) (line-short (x .config .depth) (since x w h .level) deep (since x w h .raws))
+  run-short w h =
+      rw (ap (λ (l : Line). l .run) (line-is x w h)) (line-short (x .config .depth) (since x w h .level) deep (since x w h .raws))
 
   -- The lines before any act.
   pub line-first : (w : Wire) → lineAt x w [] ≡ line x w

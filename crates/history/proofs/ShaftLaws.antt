@@ -181,7 +181,8 @@ module _ (x : Axis) (start : Start x) (kind : x .config .kind ≡ X4) (depth : x
 
   -- HEADLINE: over any stretch of samples without E or homing, also after an earlier E, the position moves exactly as the shaft does, where RANGE is
   -- clear.
-  pub moves-as-shaft : (old new : List ShaftSample) → Gentle first old new → Plain x first old new → after x (watched first (new ++ old)) .flags .range ≡ false →
+  pub moves-as-shaft : (old new : List ShaftSample) → Gentle first old new → Plain x first old new →
+      after x (watched first (new ++ old)) .flags .range ≡ false →
       positionOf (after x (watched first (new ++ old)) .word)
       ≡ positionOf (after x (watched first old) .word) +ℤ (angleAt first (new ++ old) -ℤ angleAt first old)
   moves-as-shaft old new g p r =

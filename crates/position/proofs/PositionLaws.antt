@@ -5,7 +5,7 @@ use mathlib.Core.Logic.{⊎-elim}
 use Prim.Native.Nat.{ℕ, suc, _+_, _-_, _^_, _≤_, _<_}
 use native.Mathlib.Omega.{arith}
 use borrow.Author.Tests.{lt-ltb, le-ltb, le-leb, ltb-true, leb-true, leb-false}
-use lib.Dec.{T, leb}
+use lib.Dec.{T, leb, lit<}
 use lib.IntN.{ℤ, pos, negsuc, natAbs}
 use lib.Signed.{leZ, ltZ}
 use Rattle.integers.specs.Integer.{plus, minus}
@@ -59,7 +59,10 @@ word-gives w e =
 pub word-passes : (w : ℕ) → Word w → isWord w ≡ true
 word-passes w h = rw (le-leb 1 w (h .above), le-leb w (2 ^ 63 - 1) (omega arith))
 
--- the word of a position holds one
+-- the word of position 0 holds one, as does that of any position
+pub origin-holds : Word (2 ^ 62)
+origin-holds = record { above = lit< tt; below = lit< tt }
+
 pub word-holds : (p : ℤ) → inRange p ≡ true → Word (wordOf p)
 word-holds p h =
     record {

@@ -57,7 +57,8 @@ module _ (t : List ℕ) (k : ℕ) (words : AllWords t) (h : k < axesIn (length t
       positionOf (rowAt (tableRun t cs) k .w0) ≡ tally .value .position +ℤ sum (tally .moves)
   position-told s clear =
       ap (λ (r : Row). positionOf (r .w0)) row-is
-      ∙ position-row (row-words t k words) (own k cs) (sym (ap statusOf row-is) ∙ s) (sym (ap (λ (r : Row). axisOf r .flags .range) row-is) ∙ clear)
+      ∙ position-row (row-words t k words) (own k cs) (sym (ap statusOf row-is) ∙ s)
+      (sym (ap (λ (r : Row). axisOf r .flags .range) row-is) ∙ clear)
 
   -- HEADLINE: its doubles is the smaller of 65,535 and the E entries since setup, restore or acknowledge.
   pub doubles-told : statusOf (rowAt (tableRun t cs) k) ≡ Sampled →

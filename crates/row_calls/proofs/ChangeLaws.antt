@@ -68,7 +68,8 @@ acknowledge-sampled x s =
     (λ u. ap acknowledgeAxis (s .unprimed u))
 
 -- A counter at another position is a counter.
-pub counter-moved : (x : Axis) (word : ℕ) → Word word → CounterAxis x → (y : Axis) → y ≡ freshAt (counterOf (x .config .width)) word → CounterAxis y
+pub counter-moved : (x : Axis) (word : ℕ) → Word word → CounterAxis x → (y : Axis) → y ≡ freshAt (counterOf (x .config .width)) word →
+    CounterAxis y
 counter-moved x word at k y e = subst CounterAxis (sym e) (record { word = at; narrow = k .narrow; wide = k .wide; rest = refl })
 
 -- A preset within the range keeps a counter.
@@ -82,7 +83,8 @@ preset-counter x p i k = counter-moved x (wordOf p) (word-holds p i) k (presetAx
 pub sampled-holds : (a : Axis) → SampledAxis a → Holds (rowOf a) Sampled a
 sampled-holds a s =
     let h = sampled-held s in
-    record { status = sampled-from s; axis = comes-back a h; words = held-words a h (omega (arith, s .word)) (omega (arith, s .config .turn)) }
+    let words = held-words a h (omega (arith, s .word)) (omega (arith, s .config .turn)) in
+    record { status = sampled-from s; axis = comes-back a h; words = words }
 
 -- The row of a counter holds it.
 pub counter-holds : (a : Axis) → CounterAxis a → Holds (rowOf a) Counter a

@@ -161,5 +161,6 @@ unfolding viewRow
 view-is r l = either-kind Unseen (Shows (viewOf (axisOf r))) r l
 
 -- HEADLINE: of a counter that is its kind and its position, and flags and doubles 0.
-pub view-counter : (r : Row) → statusOf r ≡ Counter → viewRow r ≡ Shows (viewOf (freshAt (counterOf (axisOf r .config .width)) (axisOf r .word)))
+pub view-counter : (r : Row) → statusOf r ≡ Counter →
+    viewRow r ≡ Shows (viewOf (freshAt (counterOf (axisOf r .config .width)) (axisOf r .word)))
 view-counter r e = view-is r (inr e) ∙ ap (λ (a : Axis). Shows (viewOf a)) (counter-gives r e .rest)

@@ -7,6 +7,7 @@ use mathlib.Core.Logic.{_↔_, ⊎-elim}
 use lib.Dec.{lit<}
 use Rattle.integers.proofs.Balance.{Tested, yes, no, test}
 use Rattle.position.specs.Position.{Word}
+use Rattle.position.proofs.PositionLaws.{origin-holds}
 use Rattle.refusal.specs.declared.Refusal.the-variants.{Value as VALUE}
 use Rattle.axis.specs.Kind.{sampledKind}
 use Rattle.axis.specs.Config.{goodConfig}
@@ -56,7 +57,7 @@ unfolding setupRow
 setup-makes k d v n r q e = go (test (goodConfig k d v n))
   where
     go : Tested (goodConfig k d v n) → Holds q (cond (sampledKind k) Sampled Counter) (fresh (configOf k d v n))
-    go (yes g) = to-one (rw g at e) (config-holds (configOf k d v n) (2 ^ 62) g (record { above = lit< tt; below = lit< tt }))
+    go (yes g) = to-one (rw g at e) (config-holds (configOf k d v n) (2 ^ 62) g origin-holds)
     go (no g) = absurd (kept-not q VALUE (rw g at e))
 
 -- HEADLINE: a setup is refused exactly where its numbers are no configuration, and then by VALUE.

@@ -26,7 +26,8 @@ use Rattle.row_counter.proofs.ReadingLaws.{read-at, read-kept}
 at-start : (r : Row) → statusOf r ≡ Counter → At (axisOf r .config .width) (positionOf (axisOf r .word)) r
 at-start r e =
     let k = counter-gives r e in
-    record { status = e; axis = k .rest ∙ ap (freshAt (counterOf (axisOf r .config .width))) (sym (word-position (axisOf r .word) (k .word))) }
+    let same = sym (word-position (axisOf r .word) (k .word)) in
+    record { status = e; axis = k .rest ∙ ap (freshAt (counterOf (axisOf r .config .width))) same }
 
 -- ---- one reading, from a counter row q of w bits at the position W
 

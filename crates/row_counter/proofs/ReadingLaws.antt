@@ -51,7 +51,8 @@ reading-reasons x r =
     counters-only refusalIn Refused (λ e. refl) (readingOf x a) (reading-past (a .config .width) (positionOf (a .word)) x) (statusOf r)
 
 -- HEADLINE: on a counter a reading is widened from the counter's width and position, with the refusals of that call.
-pub reading-is : (x : ℕ) (r : Row) → statusOf r ≡ Counter → readingRow x r ≡ widened (axisOf r .config .width) (positionOf (axisOf r .word)) x
+pub reading-is : (x : ℕ) (r : Row) → statusOf r ≡ Counter →
+    readingRow x r ≡ widened (axisOf r .config .width) (positionOf (axisOf r .word)) x
 unfolding readingRow
 reading-is x r e = rw e
 

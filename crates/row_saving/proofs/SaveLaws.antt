@@ -11,7 +11,7 @@ use lib.Seq.{take-append-seam}
 use borrow.Author.Tests.{le-leb, leb-true}
 use Rattle.integers.proofs.Balance.{Tested, yes, no, test}
 use Rattle.position.specs.Position.{wordOf}
-use Rattle.position.proofs.PositionLaws.{word-holds, position-in-range, position-word, word-position}
+use Rattle.position.proofs.PositionLaws.{origin-holds, word-holds, position-in-range, position-word, word-position}
 use Rattle.refusal.specs.declared.Refusal.{Refusal}
 use Rattle.refusal.specs.declared.Refusal.the-variants.{Kind as KIND, Room as ROOM}
 use Rattle.refusal.specs.Order.{checked}
@@ -72,7 +72,7 @@ restore-is s said r a =
     let c = said .config in
     let p = said .position in
     let parts = within-parts said (accepted-within s said a) in
-    let h = config-holds c (2 ^ 62) (parts .0) (record { above = lit< tt; below = lit< tt }) in
+    let h = config-holds c (2 ^ 62) (parts .0) origin-holds in
     let set : placeRow p (rowOf (fresh c)) ≡ To (rowOf (freshAt c (wordOf p))) = rw (parts .1) (ap (λ (x : Axis). To (rowOf (presetAxis p x))) (h .axis)) in
     rw (a, parts .0) (sym (either-kind Kept (placeRow p (rowOf (fresh c))) (rowOf (fresh c)) (made-live (rowOf (fresh c)) (sampledKind (c .kind)) (h .status)) ∙ set))
 
@@ -83,7 +83,8 @@ sampled-good : (c : Config) → SampledSetting c → goodConfig (c .kind) (c .de
 unfolding goodConfig
 sampled-good c s = rw (sampled-passes c s)
 
-counter-good : (c : Config) → counterConfig (c .kind) (c .depth) (c .width) (c .turn) ≡ true → goodConfig (c .kind) (c .depth) (c .width) (c .turn) ≡ true
+counter-good : (c : Config) → counterConfig (c .kind) (c .depth) (c .width) (c .turn) ≡ true →
+    goodConfig (c .kind) (c .depth) (c .width) (c .turn) ≡ true
 unfolding goodConfig
 counter-good c e =
     either (sampledConfig (c .kind) (c .depth) (c .width) (c .turn)) (counterConfig (c .kind) (c .depth) (c .width) (c .turn)) (λ _. e)

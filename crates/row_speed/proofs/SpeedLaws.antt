@@ -98,7 +98,8 @@ speed-past rate p = go (test (goodRate rate)) (test (eqb (p .period) 0))
 pub speed-reasons : (rate : ℕ) (r : Row) → StatusReasons (speedRefusal (speedRow rate r)) (statusOf r) (statusOf r ≡ Counter)
 unfolding speedRow
 speed-reasons rate r =
-    sampled-only speedRefusal Refused (λ e. refl) (speedOf rate (axisOf r .pace)) (speed-past rate (axisOf r .pace)) (statusOf r)
+    let pace = axisOf r .pace in
+    sampled-only speedRefusal Refused (λ e. refl) (speedOf rate pace) (speed-past rate pace) (statusOf r)
 
 -- ---- what it was reckoned from
 

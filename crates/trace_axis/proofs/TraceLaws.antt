@@ -10,6 +10,7 @@ use lib.Seq.{take-nil, take-suc, take-all}
 use lib.Dec.{lit<}
 use lib.IntN.{pos}
 use Rattle.position.specs.Position.{positionOf}
+use Rattle.position.proofs.PositionLaws.{origin-holds}
 use Rattle.axis.specs.Config.{goodConfig}
 use Rattle.axis.specs.Limit.{mostAxes}
 use Rattle.axis.specs.Kind.{X4}
@@ -128,7 +129,7 @@ view-one t r l e s = let h : 0 < axesIn (length t) = rw l (lit< tt) in rw (sym (
 -- The row of a whole input is a sampled one.
 input-sampled : (bs : List ℕ) → statusOf (inputRow bs) ≡ Sampled
 unfolding goodConfig
-input-sampled bs = status-stepped _ (map lowFour (take LIMIT bs)) ∙ setup-sound (configOf X4 1 0 0) (2 ^ 62) (lit< tt) (lit< tt) refl
+input-sampled bs = status-stepped _ (map lowFour (take LIMIT bs)) ∙ setup-sound (configOf X4 1 0 0) (2 ^ 62) origin-holds refl
 
 -- ---- the promises
 

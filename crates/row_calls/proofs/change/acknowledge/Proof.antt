@@ -28,7 +28,9 @@ enum-told-4 c = search needs
 
 pack-requires : tie.Need-pack-requires
 unfolding changed
-pack-requires c κs = let o = c .before .before .before .before in packs (opened-narrow (o .before .args .r) _ (o .open .ensures .1)) _ _ _ (lit< tt)
+pack-requires c κs =
+    let o = c .before .before .before .before in
+    packs (opened-narrow (o .before .args .r) _ (o .open .ensures .1)) _ _ _ (lit< tt)
 
 returns : tie.Need-returns
 unfolding acknowledgeRow

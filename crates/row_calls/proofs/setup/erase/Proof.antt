@@ -13,7 +13,8 @@ erased-requires : tie.Need-erased-requires
 erased-requires c κs = search needs
 
 pack-requires : tie.Need-pack-requires
-pack-requires c κs = subst Narrow (sym (c .erased .ensures)) (waiting-held (record { kind = lit< tt; depth = lit< tt; width = lit< tt }) 0 false .narrow)
+pack-requires c κs =
+    subst Narrow (sym (c .erased .ensures)) (waiting-held (record { kind = lit< tt; depth = lit< tt; width = lit< tt }) 0 false .narrow)
 
 returns : tie.Need-returns
 unfolding eraseRow
