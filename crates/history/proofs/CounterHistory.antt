@@ -24,7 +24,7 @@ use Rattle.row_calls.specs.Change.{changed}
 use Rattle.row_calls.specs.Calls.{leftBy, armRow, acknowledgeRow}
 use Rattle.row_counter.specs.Reading.{readRow}
 use Rattle.row_counter.specs.Counter.{newest, shown, rowRead, Gentle, moved}
-use Rattle.row_saving.proofs.SaveLaws.{within-parts}
+use Rattle.record.proofs.LimitsLaws.{within-parts}
 use Rattle.row_counter.proofs.CounterLaws.{counter-follows, counter-position}
 use Rattle.row_calls.specs.declared.apply.Change.the-variants.{Setup, Preset, Arm, Acknowledge}
 use Rattle.runs.specs.Op.{Look, changes, restore, reading, looks, ruleOf, rowAfter}

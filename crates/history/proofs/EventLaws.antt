@@ -32,7 +32,7 @@ use Rattle.row_counter.specs.Reading.{readAxis, readingOf, readingRow, storedRo
 use Rattle.row_calls.specs.Calls.{byStatus, leftBy, configOf, changeRow, setupRow, eraseRow, placeRow, presetRow, armRow, acknowledgeRow}
 use Rattle.row_saving.specs.Saving.{restoredBy, restoreRow}
 use Rattle.row_calls.specs.declared.answer.Changed.the-variants.{To, Kept}
-use Rattle.row_saving.proofs.SaveLaws.{within-parts}
+use Rattle.record.proofs.LimitsLaws.{within-parts}
 use Rattle.history.specs.Acts.{Act, act, sampled, Accepted as Agreed}
 use Rattle.history.specs.Acts.{preset as placed, arm as armed, acknowledge as acknowledged}
 use Rattle.history.specs.Told.{told}

@@ -5,7 +5,7 @@ use mathlib.Core.List.{List}
 use Rattle.axis.specs.declared.row.Row.{Row}
 use Rattle.row_calls.specs.declared.answer.Changed.{Changed}
 use Rattle.table_port.specs.Port.{Samples}
-use Rattle.table.specs.Call.{Makes, Reads, Saves}
+use Rattle.table.specs.Call.{Makes, ReadingMakes, SaveMakes}
 use Rattle.host_answers.specs.declared.answer.Answer.{Answer}
 use Rattle.host_answers.specs.Answer.{answerTo, answerDone, answerWritten, answerSampled}
 use Rattle.host_answers.specs.declared.sampled.SampledAnswer.{SampledAnswer}
@@ -26,8 +26,8 @@ MakesToC rule t k u a = ShownToC answerDone (Makes rule t k u) a
 
 -- What a reading promises.
 abbrev pub ReadsToC : ℕ → List ℕ → ℕ → List ℕ → Answer → Type 0
-ReadsToC x t k u a = ShownToC answerTo (Reads x t k u) a
+ReadsToC x t k u a = ShownToC answerTo (ReadingMakes x t k u) a
 
 -- What a save promises: b before, d after, and the answer; the table is only read.
 abbrev pub SavesToC : List ℕ → ℕ → List ℕ → List ℕ → Answer → Type 0
-SavesToC t k b d a = ShownToC answerWritten (Saves t k b d) a
+SavesToC t k b d a = ShownToC answerWritten (SaveMakes t k b d) a
