@@ -19,12 +19,12 @@ use Rattle.axis_sample.proofs.RowLaws.{counter-stays}
 use Rattle.record.specs.Record.{readAs}
 use Rattle.record.specs.declared.answer.Saved.{Saved}
 use Rattle.record.specs.declared.answer.Read.the-variants.{Accepted}
+use Rattle.record.proofs.LimitsLaws.{within-parts}
 use Rattle.record.proofs.RecordLaws.{accepted-within}
 use Rattle.row_calls.specs.Change.{changed}
 use Rattle.row_calls.specs.Calls.{leftBy, armRow, acknowledgeRow}
 use Rattle.row_counter.specs.Reading.{readRow}
 use Rattle.row_counter.specs.Counter.{newest, shown, rowRead, Gentle, moved}
-use Rattle.row_saving.proofs.SaveLaws.{within-parts}
 use Rattle.row_counter.proofs.CounterLaws.{counter-follows, counter-position}
 use Rattle.runs.specs.Op.{Look, setup, preset, arm, acknowledge, restore, changes, reading, looks, changeRow, ruleOf, rowAfter}
 use Rattle.runs.specs.Event.{Event, bits, asked, rowNext, rowSince}
