@@ -19,12 +19,12 @@ use Rattle.axis_sample.proofs.RowLaws.{counter-stays}
 use Rattle.record.specs.Record.{readAs}
 use Rattle.record.specs.declared.answer.Saved.{Saved}
 use Rattle.record.specs.declared.answer.Read.the-variants.{Accepted}
+use Rattle.record.proofs.LimitsLaws.{within-parts}
 use Rattle.record.proofs.RecordLaws.{accepted-within}
 use Rattle.row_calls.specs.Change.{changed}
 use Rattle.row_calls.specs.Calls.{leftBy, armRow, acknowledgeRow}
 use Rattle.row_counter.specs.Reading.{readRow}
 use Rattle.row_counter.specs.Counter.{newest, shown, rowRead, Gentle, moved}
-use Rattle.record.proofs.LimitsLaws.{within-parts}
 use Rattle.row_counter.proofs.CounterLaws.{counter-follows, counter-position}
 use Rattle.row_calls.specs.declared.apply.Change.the-variants.{Setup, Preset, Arm, Acknowledge}
 use Rattle.runs.specs.Op.{Look, changes, restore, reading, looks, ruleOf, rowAfter}

@@ -26,13 +26,13 @@ use Rattle.axis_sample.specs.Step.{stepBy, stepRow}
 use Rattle.record.specs.Record.{readAs}
 use Rattle.record.specs.declared.answer.Read.{Read}
 use Rattle.record.specs.declared.answer.Read.the-variants.{Accepted, Refused as Unread}
+use Rattle.record.proofs.LimitsLaws.{within-parts}
 use Rattle.record.proofs.RecordLaws.{accepted-within}
 use Rattle.row_calls.specs.Change.{changed}
 use Rattle.row_counter.specs.Reading.{readAxis, readingOf, readingRow, storedRow, readRow}
 use Rattle.row_calls.specs.Calls.{byStatus, leftBy, configOf, changeRow, setupRow, eraseRow, placeRow, presetRow, armRow, acknowledgeRow}
 use Rattle.row_saving.specs.Saving.{restoredBy, restoreRow}
 use Rattle.row_calls.specs.declared.answer.Changed.the-variants.{To, Kept}
-use Rattle.record.proofs.LimitsLaws.{within-parts}
 use Rattle.history.specs.Acts.{Act, act, sampled, Accepted as Agreed}
 use Rattle.history.specs.Acts.{preset as placed, arm as armed, acknowledge as acknowledged}
 use Rattle.history.specs.Told.{told}

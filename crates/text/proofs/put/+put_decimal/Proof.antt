@@ -1,4 +1,4 @@
--- The digits of a number: those of its tenth part, and one byte more; the number falls with each call.
+-- `put_decimal` meets its contract: one digit, or the digits of the tenth part and one more; what falls is the number.
 use mathlib.Core.Path.{_∙_}
 use native.Mathlib.Omega.{arith}
 use lib.ListN.{length}
@@ -25,64 +25,38 @@ abbrev put-decimal-below : ℕ → In 1 put-decimal-kinds.ps
 put-decimal-below t =
     and 1 put-decimal-kinds.ps (falls 1 put-decimal-kinds.ps _<_ μ-put-decimal t) put-decimal.Pre
 
--- what the calls ask and tell
-abbrev claims : ℕ → put-decimal-lts.Claims
-claims t = (digit-reads.Asked, digit-reads.Learnt, put-byte-reads.Asked, put-byte-reads.Learnt, put-decimal-below t, put-decimal.Post)
-
-put-decimal-digit-requires : (t : ℕ) → put-decimal-lts.Need-digit-requires (claims t) (put-decimal-at t) put-decimal.Post
-put-decimal-digit-requires t c κs = c .before .if1 .taken
-
-put-decimal-put-byte-requires : (t : ℕ) → put-decimal-lts.Need-put-byte-requires (claims t) (put-decimal-at t) put-decimal.Post
-put-decimal-put-byte-requires t c κs = let a = c .before .before .before .before .args in digit-fits (a .n) (a .at) _ (c .before .before .before .before .pre .1)
-
-put-decimal-same-length : (t : ℕ) → put-decimal-lts.Need-same-length (claims t) (put-decimal-at t) put-decimal.Post
-put-decimal-same-length t c = c .before .before .put-byte .kept .0
-
-put-decimal-returns : (t : ℕ) → put-decimal-lts.Need-returns (claims t) (put-decimal-at t) put-decimal.Post
-put-decimal-returns t c = puts-one _ _ (c .before .before .before .before .before .if1 .taken) (c .before .before .before .digit .ensures) (c .before .before .put-byte .ensures)
-
-put-decimal-put-decimal-requires : (t : ℕ) → put-decimal-lts.Need-put-decimal-requires (claims t) (put-decimal-at t) put-decimal.Post
-put-decimal-put-decimal-requires t c κs =
+pub +put-decimal-spec : {M : Type 1} → statement M
++put-decimal-spec = close μ-put-decimal λ t. put-decimal-lts.spec (
+  digit-reads.Asked,
+  digit-reads.Learnt,
+  put-byte-reads.Asked,
+  put-byte-reads.Learnt,
+  put-decimal-below t,
+  put-decimal.Post,
+)
+    (put-decimal-at t)
+    put-decimal.Post
+    (λ c κs. c .before .if1 .taken)
+    (λ c κs. let s = c .before .before .before .before in digit-fits (s .args .n) (s .args .at) _ (s .pre .1))
+    (λ c. c .before .before .put-byte .kept .0)
+    (λ c.
+    puts-one _ _ (c .before .before .before .before .before .if1 .taken) (c .before .before .before .digit .ensures)
+    (c .before .before .put-byte .ensures))
+    (λ c κs.
     let a = c .before .before .before .args in
     let p = c .before .before .before .pre in
     let l = c .before .if1 .left in
-    (omega (arith, p .0, l), omega (arith, tenth-fits (a .n) (a .at) (length (a .out .now)) l (p .1)))
-
-put-decimal-digit-requires-2 : (t : ℕ) → put-decimal-lts.Need-digit-requires-2 (claims t) (put-decimal-at t) put-decimal.Post
-put-decimal-digit-requires-2 t c κs = omega arith
-
-put-decimal-put-byte-requires-2 : (t : ℕ) → put-decimal-lts.Need-put-byte-requires-2 (claims t) (put-decimal-at t) put-decimal.Post
-put-decimal-put-byte-requires-2 t c κs =
+    (omega (arith, p .0, l), omega (arith, tenth-fits (a .n) (a .at) (length (a .out .now)) l (p .1))))
+    (λ c κs. omega arith)
+    (λ c κs.
     let s = c .before .before .before .before .before .before .before .before in
     let a = s .args in
     let d = c .before .before .before .before .put-decimal in
-    omega (
-      arith,
-      d .kept .0,
-      d .ensures .behind,
-      tenth-fits (a .n) (a .at) (length (a .out .now)) (c .before .before .before .before .before .before .if1 .left) (s .pre .1),
-    )
-
-put-decimal-same-length-2 : (t : ℕ) → put-decimal-lts.Need-same-length-2 (claims t) (put-decimal-at t) put-decimal.Post
-put-decimal-same-length-2 t c = c .before .before .put-byte2 .kept .0 ∙ c .before .before .before .before .before .before .before .put-decimal .kept .0
-
-put-decimal-returns-2 : (t : ℕ) → put-decimal-lts.Need-returns-2 (claims t) (put-decimal-at t) put-decimal.Post
-put-decimal-returns-2 t c =
+    let l = c .before .before .before .before .before .before .if1 .left in
+    omega (arith, d .kept .0, d .ensures .behind, tenth-fits (a .n) (a .at) (length (a .out .now)) l (s .pre .1)))
+    (λ c. c .before .before .put-byte2 .kept .0 ∙ c .before .before .before .before .before .before .before .put-decimal .kept .0)
+    (λ c.
     puts-more _ _ (c .before .before .before .before .before .before .before .before .before .if1 .left)
     (c .before .before .before .digit2 .ensures)
     (c .before .before .before .before .before .before .before .put-decimal .ensures)
-    (c .before .before .put-byte2 .ensures)
-
-pub +put-decimal-spec : {M : Type 1} → statement M
-+put-decimal-spec = close μ-put-decimal λ t. put-decimal-lts.spec (claims t)
-    (put-decimal-at t)
-    put-decimal.Post
-    (put-decimal-digit-requires t)
-    (put-decimal-put-byte-requires t)
-    (put-decimal-same-length t)
-    (put-decimal-returns t)
-    (put-decimal-put-decimal-requires t)
-    (put-decimal-digit-requires-2 t)
-    (put-decimal-put-byte-requires-2 t)
-    (put-decimal-same-length-2 t)
-    (put-decimal-returns-2 t)
+    (c .before .before .put-byte2 .ensures))
