@@ -12,7 +12,8 @@ use Rattle.axis.specs.declared.row.Flags.{Flags}
 use Rattle.axis.specs.declared.row.Pace.{Pace}
 use Rattle.axis.specs.declared.row.Row.{Row}
 
--- The widths of word 1's fields from bit 0 up: kind, depth, width, five flags, three levels, three runs, a bit that is 0, doubles, direction, and
+-- The widths of word 1's fields from bit 0 up: kind, depth, width, five flags, three levels, three runs, a bit that is 0, doubles,
+-- direction, and
 -- fourteen bits that are 0.
 abbrev pub layout : List ℕ
 layout = 4 ∷ 4 ∷ 6 ∷ 1 ∷ 1 ∷ 1 ∷ 1 ∷ 1 ∷ 1 ∷ 1 ∷ 1 ∷ 3 ∷ 3 ∷ 3 ∷ 1 ∷ 16 ∷ 2 ∷ 14 ∷ []

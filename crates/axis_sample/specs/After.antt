@@ -37,7 +37,8 @@ pub record Moved (x : Axis) (n : Wire → Line) : Type 0 where
   pub armed : settle x n .flags .armed ≡ x .flags .armed
   pub homed : settle x n .flags .homed ≡ x .flags .homed
   pub index :
-      settle x n .flags .index ≡ (x .flags .index || (rises x n && x .flags .homed && offTurn (x .config .turn) (positionOf (settle x n .word))))
+      settle x n .flags .index ≡ (x .flags .index
+      || (rises x n && x .flags .homed && offTurn (x .config .turn) (positionOf (settle x n .word))))
 
 -- Where it homes, the position is 0, HOMED is set, ARMED and RANGE are clear, and nothing is checked.
 pub record Homed (x : Axis) (n : Wire → Line) : Type 0 where

@@ -59,7 +59,8 @@ status-passes : (r : Row) → passes (statusOf r) r ≡ true
 unfolding statusOf passes
 status-passes r = go (isEmpty r) (isSampled r) (isCounter r) refl refl refl
   where
-    go : (e s q : Bool) → isEmpty r ≡ e → isSampled r ≡ s → isCounter r ≡ q → passes (cond e Empty (cond s Sampled (cond q Counter Broken))) r ≡ true
+    go : (e s q : Bool) → isEmpty r ≡ e → isSampled r ≡ s → isCounter r ≡ q →
+        passes (cond e Empty (cond s Sampled (cond q Counter Broken))) r ≡ true
     go true s q he hs hq = he
     go false true q he hs hq = hs
     go false false true he hs hq = hq
@@ -240,13 +241,15 @@ unfolding passes
 sampled-opens r a h e = (status-of Sampled r e, h ∙ ap axisOf (low-same r (sampled-parts r e .0 .turn)))
 
 -- A row that opens as a sampled one is that, and what it opens to is its axis.
-pub opened-sampled : (r : Row) (o : Opened) → (o .status ≡ statusOf r) × (o .axis ≡ axisOf (lowRow r)) → o .status ≡ Sampled → (statusOf r ≡ Sampled) × (o .axis ≡ axisOf r)
+pub opened-sampled : (r : Row) (o : Opened) → (o .status ≡ statusOf r) × (o .axis ≡ axisOf (lowRow r)) → o .status ≡ Sampled →
+    (statusOf r ≡ Sampled) × (o .axis ≡ axisOf r)
 opened-sampled r o h e =
     let s = sym (h .0) ∙ e in
     (s, h .1 ∙ ap axisOf (low-same r (sampled-gives r s .config .turn)))
 
 -- So is one that opens as a counter.
-pub opened-counter : (r : Row) (o : Opened) → (o .status ≡ statusOf r) × (o .axis ≡ axisOf (lowRow r)) → o .status ≡ Counter → (statusOf r ≡ Counter) × (o .axis ≡ axisOf r)
+pub opened-counter : (r : Row) (o : Opened) → (o .status ≡ statusOf r) × (o .axis ≡ axisOf (lowRow r)) → o .status ≡ Counter →
+    (statusOf r ≡ Counter) × (o .axis ≡ axisOf r)
 opened-counter r o h e =
     let s = sym (h .0) ∙ e in
     let zero : r .w3 ≡ 0 = ap (λ (a : Axis). a .config .turn) (counter-gives r s .rest) in

@@ -40,7 +40,8 @@ isShort a =
 abbrev pub isPaced : Pace → Bool
 isPaced p = not (eqb (p .direction) 3) && leb (p .period) (2 ^ 32 - 2) && (not (eqb (p .direction) 0) || eqb (p .period) 0)
 
--- The rest of a sampled axis: short runs, ARMED and HOMED not both, a sound pace, INDEX only with counts per turn, waiting where PRIMED is 0.
+-- The rest of a sampled axis: short runs, ARMED and HOMED not both, a sound pace, INDEX only with counts per turn, waiting where PRIMED is
+-- 0.
 abbrev pub isConsistent : Axis → Bool
 isConsistent a =
     isShort a

@@ -20,7 +20,8 @@ module _ (p : ℤ) (e : inRange p ≡ true) (m : Move) where
       go true f = f
       go false f = e
 
-  counts : (r : Bool) → (countedWord m (wordOf p) ≡ wordOf (cond (holds p m) p (p +ℤ worth m))) × (countedRange m (wordOf p) r ≡ (r || holds p m))
+  counts : (r : Bool) → (countedWord m (wordOf p) ≡ wordOf (cond (holds p m) p (p +ℤ worth m)))
+      × (countedRange m (wordOf p) r ≡ (r || holds p m))
   unfolding holds
   counts r = go (inRange (p +ℤ worth m)) refl
     where

@@ -104,7 +104,8 @@ module _ (r : Row) (counter : statusOf r ≡ Counter) where
       let same = only-readings d g in
       q _ (ap statusOf same ∙ counter-follows r counter g .status) ∙ same
 
-  -- HEADLINE: a counter on a shaft that moves less than half a turn between readings is where the shaft is, whatever else happens to its row between.
+  -- HEADLINE: a counter on a shaft that moves less than half a turn between readings is where the shaft is, whatever else happens to its
+  -- row between.
   pub counter-shaft : {h : List Event} {ps : List ℤ} → CounterReads width h ps → Gentle width start ps →
       positionOf (rowSince r h .w0) ≡ newest start ps
   counter-shaft d g = ap (λ (s : Row). positionOf (s .w0)) (only-readings d g) ∙ counter-position r counter g

@@ -40,7 +40,8 @@ use Rattle.row_calls.specs.declared.apply.Change.{Change}
 use Rattle.row_calls.specs.declared.apply.Change.the-variants.{Setup, Erase, Preset, Arm, Acknowledge}
 use Rattle.runs.specs.Op.{Op, changes, restore, reading, looks, ruleOf, rowAfter}
 use Rattle.runs.specs.Event.{Event, bits, asked, rowNext, rowSince}
-use Rattle.history.specs.Phase.{Phase, begun, acted, moved, bySort, readTo, restoredTo, afterChange, afterCall, afterEvent, phaseOf, toldBy, toldRow}
+use Rattle.history.specs.Phase.{Phase, begun, acted, moved, bySort, readTo, restoredTo}
+use Rattle.history.specs.Phase.{afterChange, afterCall, afterEvent, phaseOf, toldBy, toldRow}
 use Rattle.history.specs.Lawful.{Beginning, given, erased, made, Lawful}
 use Rattle.history.proofs.ToldLaws.{told-first, act-told}
 use Rattle.history.proofs.StartLaws.{start-sound}
@@ -134,7 +135,8 @@ module _ {r : Row} (words : Words r) where
         go Broken e = rw broken t
 
     -- What goes by a test of the arguments: another row and another phase, or neither.
-    by-test : (b : Bool) (q : Phase) (s : Row) (e : Refusal) → (b ≡ true → Tells r q s) → Tells r (cond b q p) (leftBy now (cond b (To s) (Kept e)))
+    by-test : (b : Bool) (q : Phase) (s : Row) (e : Refusal) → (b ≡ true → Tells r q s) →
+        Tells r (cond b q p) (leftBy now (cond b (To s) (Kept e)))
     by-test true q s e f = f refl
     by-test false q s e f = t
 
@@ -149,21 +151,25 @@ module _ {r : Row} (words : Words r) where
     presets : (z : ℤ) → Tells r (afterChange p (Preset z)) (leftBy now (presetRow z now))
     unfolding afterChange presetRow placeRow act
     presets z =
-        subst (λ (q : Phase). Tells r q (leftBy now (presetRow z now))) (sym (test-sorts (inRange z) (acted p (placed z)) (moved p z) p (statusOf (p .start))))
+        subst (λ (q : Phase). Tells r q (leftBy now (presetRow z now)))
+        (sym (test-sorts (inRange z) (acted p (placed z)) (moved p z) p (statusOf (p .start))))
         (by-sort (λ s. leftBy now (byStatus Kept (placeRow z now) (placeRow z now) s)) _ _ refl refl
         (λ e. by-test (inRange z) _ _ _ (λ ok. acts (placed z) ok e))
         (λ e. by-test (inRange z) _ _ _ (λ ok. rw (counter-preset (counter-gives now (status-now ∙ e)) z) (moves z ok e))))
 
     -- A call on sampled rows only.
     sampled-only : (a : Act) → Agreed a →
-        Tells r (bySort (acted p a) p (statusOf (p .start)) p) (leftBy now (byStatus Kept (To (rowOf (act (axisOf now) a))) (Kept KIND) (statusOf now)))
+        Tells r (bySort (acted p a) p (statusOf (p .start)) p)
+        (leftBy now (byStatus Kept (To (rowOf (act (axisOf now) a))) (Kept KIND) (statusOf now)))
     sampled-only a ok =
-        by-sort (λ s. leftBy now (byStatus Kept (To (rowOf (act (axisOf now) a))) (Kept KIND) s)) (acted p a) p refl refl (acts a ok) (λ e. t)
+        by-sort (λ s. leftBy now (byStatus Kept (To (rowOf (act (axisOf now) a))) (Kept KIND) s)) (acted p a) p refl refl (acts a ok)
+        (λ e. t)
 
     readings : (x : ℕ) → Tells r (afterCall p (reading x)) (leftBy now (readRow x now))
     unfolding afterCall readRow readingRow storedRow
     readings x =
-        by-sort (λ s. leftBy now (storedRow now (byStatus Unreckoned (Unreckoned KIND) (readingOf x (axisOf now)) s))) p _ refl refl (λ e. t)
+        by-sort (λ s. leftBy now (storedRow now (byStatus Unreckoned (Unreckoned KIND) (readingOf x (axisOf now)) s))) p _ refl refl
+        (λ e. t)
         (λ e. rw (reading-told x e) (go e (widened (axisOf (p .start) .config .width) (p .place) x) refl))
       where
         go : statusOf (p .start) ≡ Counter → (a : Reckoned) → widened (axisOf (p .start) .config .width) (p .place) x ≡ a →

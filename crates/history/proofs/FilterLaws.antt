@@ -67,7 +67,8 @@ module _ (d : ℕ) (v : Bool) where
   level-start : (r : ℕ) → r < d → latest d v (replicate r (not v)) ≡ v
   unfolding latest
   level-start zero g = refl
-  level-start (suc r) g = latest-pass d v (not v) (replicate r (not v)) (rw (streak-replicate (suc r) (not v)) g) ∙ level-start r (omega arith)
+  level-start (suc r) g = latest-pass d v (not v) (replicate r (not v)) (rw (streak-replicate (suc r) (not v)) g)
+      ∙ level-start r (omega arith)
 
   -- A starting run r is as good as r samples of the other level.
   pub line-start : (r : ℕ) → r < d → lineOf d v (replicate r (not v)) ≡ record { level = v; run = r }

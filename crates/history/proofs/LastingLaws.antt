@@ -24,7 +24,8 @@ use Rattle.row_calls.specs.declared.apply.Change.the-variants.{Setup, Erase, Pr
 use Rattle.runs.specs.Op.{Op, changes, restore, reading, looks, Refused}
 use Rattle.runs.specs.Event.{Event, bits, asked, rowNext, rowSince}
 use Rattle.runs.proofs.CallLaws.{refused-after}
-use Rattle.history.specs.Phase.{Phase, moved, bySort, readTo, restoredTo, afterChange, afterCall, afterEvent, phaseOf, toldBy, toldRow}
+use Rattle.history.specs.Phase.{Phase, moved, bySort, readTo, restoredTo, afterChange}
+use Rattle.history.specs.Phase.{afterCall, afterEvent, phaseOf, toldBy, toldRow}
 use Rattle.history.specs.Lasting.{isRead, renews, begins, Lasting}
 use Rattle.history.proofs.PhaseLaws.{told-configured}
 use Rattle.history.proofs.RowHistory.{phase-lawful, row-history, status-history}
@@ -128,5 +129,6 @@ module _ {r : Row} (words : Words r) (h : List Event) (lasting : Lasting h) wher
   broken-lasts = idle-lasts Broken refl
 
   -- HEADLINE: each sample on a broken row sets its broken bit and no other until then.
-  pub broken-marked : statusOf r ≡ Broken → (n : ℕ) → marksOf (stepRow (rowSince r h) n) ≡ record { double = false; index = false; broken = true }
+  pub broken-marked : statusOf r ≡ Broken → (n : ℕ) →
+      marksOf (stepRow (rowSince r h) n) ≡ record { double = false; index = false; broken = true }
   broken-marked e n = ap marksOf (broken-stays (rowSince r h) n (status-lasts ∙ e))

@@ -31,7 +31,8 @@ since-append r [] old = refl
 since-append r (e ∷ new) old = ap (λ (s : Row). rowNext s e) (since-append r new old)
 
 module _ {r : Row} (words : Words r) (h : List Event) where
-  -- HEADLINE: every phase begins with the given row or with one that an accepted setup, an erase or an accepted restore makes, its acts were accepted,
+  -- HEADLINE: every phase begins with the given row or with one that an accepted setup, an erase or an accepted restore makes, its acts
+  -- were accepted,
   -- and the place of a counter is in the range.
   pub phase-lawful : Lawful r (phaseOf r h)
   phase-lawful = tells words h .lawful
@@ -52,11 +53,13 @@ module _ {r : Row} (words : Words r) (h : List Event) where
   words-history = rw row-history (whole .words)
 
   -- The axis of a sampled row is the one that the acts of the phase tell.
-  pub sampled-history : statusOf (phaseOf r h .start) ≡ Sampled → axisOf (rowSince r h) ≡ told (axisOf (phaseOf r h .start)) (phaseOf r h .acts)
+  pub sampled-history : statusOf (phaseOf r h .start) ≡ Sampled →
+      axisOf (rowSince r h) ≡ told (axisOf (phaseOf r h .start)) (phaseOf r h .acts)
   sampled-history e = ap axisOf row-history ∙ axis-sampled phase-lawful e
 
   -- The axis of a counter is the one that the phase began with, at the phase's place.
-  pub counter-history : statusOf (phaseOf r h .start) ≡ Counter → axisOf (rowSince r h) ≡ readAxis (phaseOf r h .place) (axisOf (phaseOf r h .start))
+  pub counter-history : statusOf (phaseOf r h .start) ≡ Counter →
+      axisOf (rowSince r h) ≡ readAxis (phaseOf r h .place) (axisOf (phaseOf r h .start))
   counter-history e = ap axisOf row-history ∙ axis-counter phase-lawful e
 
   -- HEADLINE: a sample's bits of the answer are those that the phase tells.
@@ -69,7 +72,8 @@ module _ {r : Row} (words : Words r) (h : List Event) where
       go Sampled e =
           let p = phaseOf r h in
           ap (λ (x : Axis). marksOf (packed (stepAxis x (rawOf n)))) (sampled-history e)
-          ∙ ap (λ (o : Stepped). marksOf (packed o)) (sample-told (axisOf (p .start)) (start-sound (p .start) e) (rawOf n) (p .acts) (phase-lawful .legal))
+          ∙ ap (λ (o : Stepped). marksOf (packed o))
+          (sample-told (axisOf (p .start)) (start-sound (p .start) e) (rawOf n) (p .acts) (phase-lawful .legal))
       go Counter e = refl
       go Broken e = refl
 

@@ -1,4 +1,5 @@
--- Demand 2 for a sampled row: its fields and its bits of the answer after any events, by what its phase began with and what has happened since.
+-- Demand 2 for a sampled row: its fields and its bits of the answer after any events, by what its phase began with and what has happened
+-- since.
 use mathlib.Core.Path.{_≡_, sym, _∙_, ap}
 use mathlib.Core.Bool.{false}
 use mathlib.Core.List.{List}
@@ -46,7 +47,8 @@ module _ {r : Row} (words : Words r) (h : List Event) (sampled : statusOf (rowSi
 
   -- HEADLINE: while RANGE is clear, the position is the last value given plus the sum of the entries since.
   pub position-row : axisOf (rowSince r h) .flags .range ≡ false →
-      positionOf (rowSince r h .w0) ≡ placeTally (startAxis r h) (actsSince r h) .value .position +ℤ sum (placeTally (startAxis r h) (actsSince r h) .moves)
+      positionOf (rowSince r h .w0) ≡ placeTally (startAxis r h) (actsSince r h) .value .position +ℤ sum
+      (placeTally (startAxis r h) (actsSince r h) .moves)
   position-row clear =
       ap (λ (x : Axis). positionOf (x .word)) axis-row
       ∙ position-history (startAxis r h) start (actsSince r h) legal (sym (ap (λ (x : Axis). x .flags .range) axis-row) ∙ clear)

@@ -1,4 +1,5 @@
--- Depth 1, x4, from a first sample on and with no call between: E stands at exactly the samples with a move of two, and the position moves as the
+-- Depth 1, x4, from a first sample on and with no call between: E stands at exactly the samples with a move of two, and the position moves
+-- as the
 -- shaft does.
 use mathlib.Core.Path.{_≡_, refl, sym, _∙_, ap, ap₂}
 use mathlib.Core.Bool.{true, false, true≢false}
@@ -108,7 +109,8 @@ entry-shown a b g =
 -- The two levels of a code that is shown make that code.
 code-shown : (angle : ℤ) → code (flagOf 0 (shown angle)) (flagOf 1 (shown angle)) ≡ shown angle
 unfolding shown cycle
-code-shown angle = below-four (λ i. code (flagOf 0 (getD cycle i 0)) (flagOf 1 (getD cycle i 0)) ≡ getD cycle i 0) refl refl refl refl (modZ angle 4) (modZ-lt angle (omega arith))
+code-shown angle = below-four (λ i. code (flagOf 0 (getD cycle i 0)) (flagOf 1 (getD cycle i 0)) ≡ getD cycle i 0) refl refl refl refl
+    (modZ angle 4) (modZ-lt angle (omega arith))
 
 legal-watched : (first : ShaftSample) (ts : List ShaftSample) → Legal (watched first ts)
 unfolding watched
@@ -145,7 +147,8 @@ module _ (x : Axis) (start : Start x) (kind : x .config .kind ≡ X4) (depth : x
       (ap (λ (m : Move). m ∷ [])
       (ap (λ (k : ℕ). entry k (shown (angleAt first ts)) (shown (t .angle))) kind ∙ entry-shown (angleAt first ts) (t .angle) g))
 
-  double-watched : (ts : List ShaftSample) (t : ShaftSample) → moved first ts t ≤ 2 → doubleAt x (rawAt t) (watched first ts) ≡ isE (expected (move ts t))
+  double-watched : (ts : List ShaftSample) (t : ShaftSample) → moved first ts t ≤ 2 →
+      doubleAt x (rawAt t) (watched first ts) ≡ isE (expected (move ts t))
   double-watched ts t g = double-entry x (rawAt t) (watched first ts) (expected (move ts t)) (entry-watched ts t g)
 
   -- HEADLINE: where no move is above two quarter steps, E stands at exactly the samples with two.
@@ -176,10 +179,12 @@ module _ (x : Axis) (start : Start x) (kind : x .config .kind ≡ X4) (depth : x
       let c = one-clear (placeTally x (watched first ts)) m (ap ranged (sym e) ∙ r) in
       ap walked e
       ∙ c .1
-      ∙ ap₂ (λ (a b : ℤ). a +ℤ b) (stretch old new (g .1) (p .2) (c .0)) (expected-worth (move ts t) (sym (double-watched ts t (g .0)) ∙ p .0))
+      ∙ ap₂ (λ (a b : ℤ). a +ℤ b) (stretch old new (g .1) (p .2) (c .0))
+      (expected-worth (move ts t) (sym (double-watched ts t (g .0)) ∙ p .0))
       ∙ joined (positionAt x (watched first old)) (angleAt first old) (angleAt first ts) (t .angle)
 
-  -- HEADLINE: over any stretch of samples without E or homing, also after an earlier E, the position moves exactly as the shaft does, where RANGE is
+  -- HEADLINE: over any stretch of samples without E or homing, also after an earlier E, the position moves exactly as the shaft does, where
+  -- RANGE is
   -- clear.
   pub moves-as-shaft : (old new : List ShaftSample) → Gentle first old new → Plain x first old new →
       after x (watched first (new ++ old)) .flags .range ≡ false →

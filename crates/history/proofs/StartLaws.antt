@@ -1,4 +1,5 @@
--- Where a history may start: at the axis of any sampled row, at the axis that a setup or a restore makes, and at the axis after any history.
+-- Where a history may start: at the axis of any sampled row, at the axis that a setup or a restore makes, and at the axis after any
+-- history.
 use mathlib.Core.Path.{_≡_, refl, ap}
 use mathlib.Core.Bool.{true}
 use mathlib.Core.List.{List, [], _∷_, _++_}

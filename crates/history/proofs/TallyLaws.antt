@@ -73,7 +73,8 @@ pub one-clear : (t : Tally Place) (m : Move) → ranged (onward (m ∷ []) t) �
     (ranged t ≡ false) × (walked (onward (m ∷ []) t) ≡ walked t +ℤ worth m)
 unfolding walk heldIn
 one-clear t m e =
-    let n = neither (ranged t) (holds (walked t) m) (or-assoc (t .value .range) (heldIn (t .value .position) (t .moves)) (holds (walked t) m) ∙ e) in
+    let n = neither (ranged t) (holds (walked t) m)
+    (or-assoc (t .value .range) (heldIn (t .value .position) (t .moves)) (holds (walked t) m) ∙ e) in
     (n .0, rw (n .1))
 
 -- HEADLINE: where RANGE is clear no entry was held, and the position is the value given plus the sum of the entries since.

@@ -95,7 +95,8 @@ module _ (x : Axis) (start : Start x) where
 
   -- An act on the axis that a history tells.
   pub act-told : (a : Act) (h : List Act) → Legal (a ∷ h) → act (told x h) a ≡ told x (a ∷ h)
-  unfolding act changed answered told primedAt since levelAt runAt armedAt homedAt indexAt placeTally walk heldIn doublesTally numberOfE entries
+  unfolding act changed answered told primedAt since levelAt runAt armedAt homedAt indexAt placeTally walk heldIn doublesTally numberOfE
+      entries
   act-told (sampled s) h l = ap (λ (o : Stepped). o .axis) (sample-told s h (l .1))
   act-told (preset p) h l = refl
   act-told arm h l = refl

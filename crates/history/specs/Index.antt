@@ -1,4 +1,5 @@
--- The index check in a history h that started from the axis x: document 01, "A port sample", Index, and "Calls that name one axis", Acknowledge.
+-- The index check in a history h that started from the axis x: document 01, "A port sample", Index, and "Calls that name one axis",
+-- Acknowledge.
 use mathlib.Core.Bool.{Bool, false, not, _&&_, _||_}
 use mathlib.Core.List.{List, [], _∷_}
 use lib.IntN.{ℤ}
@@ -15,7 +16,8 @@ use Rattle.history.specs.Tally.{onward, walked, placeTally}
 unfoldable pub countedAt : Axis → Raw → List Act → ℤ
 countedAt x s h = walked (onward (entryAt x s h) (placeTally x h))
 
--- INDEX: from an index rise, on an axis that is homed and not armed, where the position is no multiple of the counts per turn, to an acknowledge.
+-- INDEX: from an index rise, on an axis that is homed and not armed, where the position is no multiple of the counts per turn, to an
+-- acknowledge.
 unfoldable pub indexAt : Axis → List Act → Bool
 indexAt x [] = x .flags .index
 indexAt x (sampled s ∷ h) =

@@ -19,7 +19,8 @@ pub data Beginning : Row → Row → Type 0 where
   made : {r : Row} (c : Config) (z : ℤ) → goodConfig (c .kind) (c .depth) (c .width) (c .turn) ≡ true → inRange z ≡ true →
       Beginning r (rowOf (freshAt c (wordOf z)))
 
--- What holds of every phase after a row was given: how it began, that its acts were accepted, and that a counter's position is in the range.
+-- What holds of every phase after a row was given: how it began, that its acts were accepted, and that a counter's position is in the
+-- range.
 pub record Lawful (r : Row) (p : Phase) : Type 0 where
   pub began : Beginning r (p .start)
   pub legal : Legal (p .acts)

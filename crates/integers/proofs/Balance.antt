@@ -1,4 +1,5 @@
--- Linear arithmetic on ℤ by `omega`: z is plus z - minus z, one of which is 0. Each operation has one balance, an equation of natural numbers
+-- Linear arithmetic on ℤ by `omega`: z is plus z - minus z, one of which is 0. Each operation has one balance, an equation of natural
+-- numbers
 -- that `omega` reads; an equation or an order of ℤ is one of natural numbers.
 use mathlib.Core.Path.{_≡_, refl, sym, ap, _∙_, subst}
 use mathlib.Core.Bool.{Bool, true, false}
@@ -120,7 +121,8 @@ unfolding modZ
 mod-turns {z = pos a} {m} {t} pm h =
     sym (add-mul-mod-self-right a (h .up) m) ∙ ap (λ (n : ℕ). n % m) (omega (arith, h .is)) ∙ add-mul-mod-self-right t (h .down) m
 mod-turns {z = negsuc a} {m} {t} pm h =
-    sym (mod-eq-of-lt (omega (arith, mod-lt a pm))) ∙ sym (add-mul-mod-self-right (m - suc (a % m)) (h .up) m) ∙ ap (λ (n : ℕ). n % m) back ∙ add-mul-mod-self-right t (h .down + a / m + 1) m
+    sym (mod-eq-of-lt (omega (arith, mod-lt a pm))) ∙ sym (add-mul-mod-self-right (m - suc (a % m)) (h .up) m)
+    ∙ ap (λ (n : ℕ). n % m) back ∙ add-mul-mod-self-right t (h .down + a / m + 1) m
   where
     back : m - suc (a % m) + h .up * m ≡ t + (h .down + a / m + 1) * m
     back = omega (arith, h .is, mod-lt a pm, div-add-mod' a m)
@@ -137,7 +139,8 @@ modZ-lt (pos a) pm = mod-lt a pm
 modZ-lt (negsuc a) pm = omega arith
 
 -- two numbers that are t but for whole turns, and less than a turn apart, are one
-pub near-one : {x y : ℤ} {m t : ℕ} → Turns x m t → Turns y m t → plus x + minus y < plus y + minus x + m → plus y + minus x < plus x + minus y + m → x ≡ y
+pub near-one : {x y : ℤ} {m t : ℕ} → Turns x m t → Turns y m t → plus x + minus y < plus y + minus x + m →
+    plus y + minus x < plus x + minus y + m → x ≡ y
 near-one {x} {y} {m} {t} h k below above = eqZ x y (same (h .down + k .up) (k .down + h .up) (omega (arith, h .is, k .is)))
   where
     same : (a b : ℕ) → plus x + minus y + b * m ≡ plus y + minus x + a * m → plus x + minus y ≡ plus y + minus x

@@ -52,7 +52,8 @@ module _ (t : List ℕ) (k : ℕ) (words : AllWords t) (h : k < axesIn (length t
   pub row-told : rowAt (tableRun t cs) k ≡ toldRow (phaseOf (rowAt t k) (own k cs))
   row-told = row-is ∙ row-history (row-words t k words) (own k cs)
 
-  -- HEADLINE: a sampled row's position, while RANGE is clear, is the last setup, preset, restored or homing value plus the sum of the mode's entries since.
+  -- HEADLINE: a sampled row's position, while RANGE is clear, is the last setup, preset, restored or homing value plus the sum of the
+  -- mode's entries since.
   pub position-told : statusOf (rowAt (tableRun t cs) k) ≡ Sampled → axisOf (rowAt (tableRun t cs) k) .flags .range ≡ false →
       positionOf (rowAt (tableRun t cs) k .w0) ≡ tally .value .position +ℤ sum (tally .moves)
   position-told s clear =
@@ -67,6 +68,7 @@ module _ (t : List ℕ) (k : ℕ) (words : AllWords t) (h : k < axesIn (length t
       ap (λ (r : Row). axisOf r .doubles) row-is ∙ doubles-row (row-words t k words) (own k cs) (sym (ap statusOf row-is) ∙ s)
 
   -- HEADLINE: a counter's position is its last set, preset or restored value, or where its last accepted reading puts it.
-  pub counter-told : statusOf (rowAt (tableRun t cs) k) ≡ Counter → positionOf (rowAt (tableRun t cs) k .w0) ≡ phaseOf (rowAt t k) (own k cs) .place
+  pub counter-told : statusOf (rowAt (tableRun t cs) k) ≡ Counter →
+      positionOf (rowAt (tableRun t cs) k .w0) ≡ phaseOf (rowAt t k) (own k cs) .place
   counter-told s =
       ap (λ (r : Row). positionOf (r .w0)) row-is ∙ position-counter (row-words t k words) (own k cs) (sym (ap statusOf row-is) ∙ s)

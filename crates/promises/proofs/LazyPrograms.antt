@@ -1,4 +1,5 @@
--- The five lazy programs of document 01, "Programs that would slip past a lazy claim", and what shuts each out. Position always 0 is shut out by
+-- The five lazy programs of document 01, "Programs that would slip past a lazy claim", and what shuts each out. Position always 0 is shut
+-- out by
 -- CountIsRight.position-told and ReadingsHold.readings-hold, an invented doubles number by CountIsRight.doubles-told.
 use mathlib.Core.Path.{_≡_, refl, ap, _∙_}
 use mathlib.Core.Logic.{_≢_}
@@ -33,7 +34,8 @@ sample-changes-something t k word h s u =
     ∙ ap (λ (f : _). f .primed) (priming (axisOf (rowAt t k)) (rawOf (nibble word k)) u .flags)
 
 -- A first sample that uses up the run: each sample's table follows from the table that the calls before it left and from this word.
-pub each-sample-by-itself : (t : List ℕ) (cs : List Call) (word : ℕ) → tableRun t (cs ++ (port word ∷ [])) ≡ sampledTable (tableRun t cs) word
+pub each-sample-by-itself : (t : List ℕ) (cs : List Call) (word : ℕ) →
+    tableRun t (cs ++ (port word ∷ [])) ≡ sampledTable (tableRun t cs) word
 unfolding tableRun tableNext
 each-sample-by-itself t [] word = refl
 each-sample-by-itself t (c ∷ cs) word = each-sample-by-itself (tableNext t c) cs word

@@ -9,7 +9,8 @@ use Rattle.reckon.specs.declared.Reckoned.{Reckoned}
 use Rattle.reckon.specs.declared.speed.Speed.{Speed}
 
 -- HEADLINE: reckon::widening::widen.
-pub widen-one : (width : ℕ) (position : ℤ) (reading : ℕ) (r s : Reckoned) → r ≡ widened width position reading → s ≡ widened width position reading → r ≡ s
+pub widen-one : (width : ℕ) (position : ℤ) (reading : ℕ) (r s : Reckoned) → r ≡ widened width position reading →
+    s ≡ widened width position reading → r ≡ s
 widen-one width position reading r s = one
 
 -- HEADLINE: reckon::speed::by_count.

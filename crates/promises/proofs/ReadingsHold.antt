@@ -19,5 +19,8 @@ use Rattle.promises.specs.Readings.{setUp, sampledBy, counted, levelled,
 
 -- HEADLINE: each of the twelve shows what document 01 states.
 pub readings-hold : map (λ (r : Reading). r .gives) readings ≡ map (λ (r : Reading). r .stated) readings
-unfolding readings _shows_ setUp sampledBy counted levelled positionOf inRange modZ goodReading orRange nearestTo widened rounded goodCount goodSpeed speedByCount statusOf placeOf levelOf line filterLine filtered x1 x2 x4 tableOf entry isE moveTo countedWord countedRange countedDoubles older pacedDirection pacedAge stepPeriod pacedPeriod rises offTurn primedBy settle outcome stepAxis stepBy stepRow
+unfolding readings _shows_ setUp sampledBy counted levelled positionOf inRange modZ goodReading orRange nearestTo widened rounded
+    goodCount goodSpeed speedByCount statusOf placeOf levelOf line filterLine filtered x1 x2 x4 tableOf entry isE moveTo countedWord
+    countedRange countedDoubles older pacedDirection pacedAge stepPeriod pacedPeriod rises offTurn primedBy settle outcome stepAxis stepBy
+    stepRow
 readings-hold = refl

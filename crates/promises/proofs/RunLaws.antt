@@ -1,4 +1,5 @@
--- One call, and a run of calls, as one axis has them: its row after them and all that it is told follow from its row before and its own events.
+-- One call, and a run of calls, as one axis has them: its row after them and all that it is told follow from its row before and its own
+-- events.
 use mathlib.Core.Path.{_≡_, refl, sym, ap, _∙_}
 use mathlib.Core.Bool.{Bool, true, false, cond}
 use mathlib.Core.List.{List, [], _∷_, _++_}

@@ -28,18 +28,21 @@ module _ (s : Saved) (b : List ℕ) where
   -- what a save of it tells, by the room alone
   abbrev recorded : ℕ → Told
   recorded room =
-      cond (withinLimits s) (cond (leb (length (recordOf s)) room) (wrote (length (recordOf s)) (recordOf s)) (refused Room)) (refused Value)
+      cond (withinLimits s) (cond (leb (length (recordOf s)) room) (wrote (length (recordOf s)) (recordOf s)) (refused Room))
+      (refused Value)
 
   bytes-are : toldBytes (savedAs (length b) s) (written b s) ≡ recorded (length b)
   unfolding savedAs
   bytes-are = go (test (withinLimits s)) (test (leb (length (recordOf s)) (length b)))
     where
-      go : Tested (withinLimits s) → Tested (leb (length (recordOf s)) (length b)) → toldBytes (savedAs (length b) s) (written b s) ≡ recorded (length b)
+      go : Tested (withinLimits s) → Tested (leb (length (recordOf s)) (length b)) →
+          toldBytes (savedAs (length b) s) (written b s) ≡ recorded (length b)
       go (no w) f = rw w
       go (yes w) (no f) = rw (w, f)
       go (yes w) (yes f) = let h = front w (leb-true (length (recordOf s)) (length b) f) in rw (w, f) (ap (wrote (length (recordOf s))) h)
 
-same-bytes : (s : Saved) (b d : List ℕ) → length b ≡ length d → toldBytes (savedAs (length b) s) (written b s) ≡ toldBytes (savedAs (length d) s) (written d s)
+same-bytes : (s : Saved) (b d : List ℕ) → length b ≡ length d →
+    toldBytes (savedAs (length b) s) (written b s) ≡ toldBytes (savedAs (length d) s) (written d s)
 same-bytes s b d e = bytes-are s b ∙ rw e (sym (bytes-are s d))
 
 -- HEADLINE: two buffers of one size get the same bytes from a row, and the same answer.

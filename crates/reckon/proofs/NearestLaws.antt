@@ -1,4 +1,5 @@
--- What widening means: the one value nearest W with low bits r; the true position, where it moved less than half a turn; HALF at half a turn.
+-- What widening means: the one value nearest W with low bits r; the true position, where it moved less than half a turn; HALF at half a
+-- turn.
 use mathlib.Core.Path.{_≡_, sym, _∙_, subst}
 use mathlib.Core.Bool.{true, cond}
 use mathlib.Core.Logic.{_⊎_, inl, inr, ⊎-elim}
@@ -160,7 +161,8 @@ module _ (w : ℕ) (W p : ℤ) (wide : goodWidth w ≡ true) (okW : inRange W �
 
 -- ---- what an answer says
 
-only : (w : ℕ) (W z : ℤ) (r : ℕ) → modZ z (2 ^ w) ≡ r → 2 * natAbs (z -ℤ W) < 2 ^ w → (y : ℤ) → modZ y (2 ^ w) ≡ r → (y ≡ z) ⊎ (natAbs (z -ℤ W) < natAbs (y -ℤ W))
+only : (w : ℕ) (W z : ℤ) (r : ℕ) → modZ z (2 ^ w) ≡ r → 2 * natAbs (z -ℤ W) < 2 ^ w → (y : ℤ) → modZ y (2 ^ w) ≡ r →
+    (y ≡ z) ⊎ (natAbs (z -ℤ W) < natAbs (y -ℤ W))
 only w W z r b n y e = go (test (ltb (natAbs (z -ℤ W)) (natAbs (y -ℤ W))))
   where
     at-r : (x : ℤ) → modZ x (2 ^ w) ≡ r → Turns x (2 ^ w) r

@@ -119,7 +119,8 @@ word-range b = go (test (leb 1 b)) (test (leb b (2 ^ 63 - 1)))
     go : Tested (leb 1 b) → Tested (leb b (2 ^ 63 - 1)) → inRange (positionOf b) ≡ isWord b
     go (no e) t = rw e (range-no (positionOf b) (omega (arith, leb-false 1 b e, bal-position b)))
     go (yes e) (no f) = rw (e, f) (range-no (positionOf b) (omega (arith, leb-false b (2 ^ 63 - 1) f, bal-position b)))
-    go (yes e) (yes f) = rw (e, f) (position-in-range b (record { above = omega (arith, leb-true 1 b e); below = omega (arith, leb-true b (2 ^ 63 - 1) f) }))
+    go (yes e) (yes f) = rw (e, f)
+        (position-in-range b (record { above = omega (arith, leb-true 1 b e); below = omega (arith, leb-true b (2 ^ 63 - 1) f) }))
 
 -- the whole call, by the word
 pub by-word : (w : ℕ) (W : ℤ) (r : ℕ) → goodWidth w ≡ true → inRange W ≡ true → r < 2 ^ w →

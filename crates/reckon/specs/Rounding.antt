@@ -13,7 +13,8 @@ unfoldable pub rounded : ℤ → ℕ → ℤ
 rounded (pos a) t = pos ((2 * a + t) / (2 * t))
 rounded (negsuc a) t = negℤ (pos ((2 * suc a + t) / (2 * t)))
 
--- What "nearest, halves away from zero" asks of v: twice v t lies at most t from twice n, and at exactly t v lies on the far side of n / t from zero.
+-- What "nearest, halves away from zero" asks of v: twice v t lies at most t from twice n, and at exactly t v lies on the far side of n / t
+-- from zero.
 pub record Rounds (n : ℤ) (t : ℕ) (v : ℤ) : Type 0 where
   pub near : 2 * natAbs ((v *ℤ pos t) -ℤ n) ≤ t
   pub away : 2 * natAbs ((v *ℤ pos t) -ℤ n) ≡ t → natAbs n ≤ natAbs (v *ℤ pos t)

@@ -50,7 +50,10 @@ right p never = record {
 
 -- The row is of the wrong one.
 wrongly : {wrong : Type 0} → wrong → Later (numberOf KIND) wrong
-wrongly w = record { full = (λ e. other (numberOf KIND) (numberOf BROKEN) refl e, λ e. other (numberOf KIND) (numberOf EMPTY) refl e); kind = (λ _. w, λ _. refl) }
+wrongly w = record {
+  full = (λ e. other (numberOf KIND) (numberOf BROKEN) refl e, λ e. other (numberOf KIND) (numberOf EMPTY) refl e);
+  kind = (λ _. w, λ _. refl);
+}
 
 -- Statuses by a number, which tells them apart.
 rank : Status → ℕ
@@ -116,7 +119,8 @@ pub place-past : (p : ℤ) (r : Row) → Past (changedNumber (placeRow p r))
 unfolding Past placeRow
 place-past p r = after-either checked changedNumber KIND (inRange p) _ _ (inl refl) (inr (lit< tt))
 
--- ---- each call: BROKEN exactly on a broken row, EMPTY exactly on an empty one, and KIND exactly on one of the kind that the call does not take
+-- ---- each call: BROKEN exactly on a broken row, EMPTY exactly on an empty one, and KIND exactly on one of the kind that the call does not
+-- take
 
 -- HEADLINE: preset takes both kinds.
 pub preset-reasons : (p : ℤ) (r : Row) → StatusReasons (changedNumber (presetRow p r)) (statusOf r) ⊥

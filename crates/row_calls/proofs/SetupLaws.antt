@@ -52,7 +52,8 @@ config-holds c w good word =
     }
 
 -- HEADLINE: a setup that is accepted makes a sampled row or a counter, by its kind, with the configuration, position 0 and all else 0.
-pub setup-makes : (k d v n : ℕ) (r q : Row) → setupRow k d v n r ≡ To q → Holds q (cond (sampledKind k) Sampled Counter) (fresh (configOf k d v n))
+pub setup-makes : (k d v n : ℕ) (r q : Row) → setupRow k d v n r ≡ To q →
+    Holds q (cond (sampledKind k) Sampled Counter) (fresh (configOf k d v n))
 unfolding setupRow
 setup-makes k d v n r q e = go (test (goodConfig k d v n))
   where
@@ -72,4 +73,11 @@ setup-refused k d v n r = (λ e. go (test (goodConfig k d v n)) e, λ g. rw g)
 -- HEADLINE: erase makes an empty row of any row, four zero words.
 pub erase-makes : (r : Row) → (eraseRow r ≡ To emptyRow) × Holds emptyRow Empty blank
 unfolding eraseRow
-erase-makes r = (refl, record { status = erase-sound .1; axis = refl; words = record { w0 = lit< tt; w1 = lit< tt; w2 = lit< tt; w3 = lit< tt } })
+erase-makes r = (
+  refl,
+  record {
+    status = erase-sound .1;
+    axis = refl;
+    words = record { w0 = lit< tt; w1 = lit< tt; w2 = lit< tt; w3 = lit< tt };
+  },
+)

@@ -7,7 +7,8 @@ use Rattle.refusal.specs.declared.Refusal.the-variants.{Broken as BROKEN, Empty
 use Rattle.axis_sound.specs.declared.Status.{Status}
 use Rattle.axis_sound.specs.declared.Status.the-variants.{Empty, Broken}
 
--- The number n of an answer about a row of status s tells each of the three reasons exactly: a broken row, an empty one, and one of the wrong kind.
+-- The number n of an answer about a row of status s tells each of the three reasons exactly: a broken row, an empty one, and one of the
+-- wrong kind.
 pub record StatusReasons (n : ℕ) (s : Status) (wrong : Type 0) : Type 0 where
   pub broken : (n ≡ numberOf BROKEN) ↔ (s ≡ Broken)
   pub empty : (n ≡ numberOf EMPTY) ↔ (s ≡ Empty)

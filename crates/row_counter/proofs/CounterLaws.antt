@@ -31,7 +31,8 @@ at-start r e =
 
 -- ---- one reading, from a counter row q of w bits at the position W
 
-module _ (w : ℕ) (W : ℤ) (q : Row) (at : At w W q) (okW : inRange W ≡ true) (p : ℤ) (ok : inRange p ≡ true) (near : 2 * natAbs (p -ℤ W) < 2 ^ w) where
+module _ (w : ℕ) (W : ℤ) (q : Row) (at : At w W q) (okW : inRange W ≡ true) (p : ℤ) (ok : inRange p ≡ true)
+    (near : 2 * natAbs (p -ℤ W) < 2 ^ w) where
   counter : CounterAxis (axisOf q)
   counter = counter-gives q (at .status)
 
@@ -76,7 +77,8 @@ module _ (r : Row) (counter : statusOf r ≡ Counter) where
   pub counter-follows : {ps : List ℤ} → Gentle bits start ps → At bits (newest start ps) (rowRead bits r ps)
   unfolding rowRead
   counter-follows still = at-start r counter
-  counter-follows (moved p ps ok near g) = one-row bits (newest start ps) (rowRead bits r ps) (counter-follows g) (newest-in-range g) p ok near
+  counter-follows (moved p ps ok near g) =
+      one-row bits (newest start ps) (rowRead bits r ps) (counter-follows g) (newest-in-range g) p ok near
 
   -- HEADLINE: so its position is the true one after each reading.
   pub counter-position : {ps : List ℤ} → Gentle bits start ps → positionOf (axisOf (rowRead bits r ps) .word) ≡ newest start ps
@@ -85,4 +87,5 @@ module _ (r : Row) (counter : statusOf r ≡ Counter) where
 
   -- HEADLINE: and each reading is accepted and answers the true position.
   pub counter-answers : {p : ℤ} {ps : List ℤ} → Gentle bits start (p ∷ ps) → readingRow (shown bits p) (rowRead bits r ps) ≡ Number p
-  counter-answers (moved p ps ok near g) = one-answer bits (newest start ps) (rowRead bits r ps) (counter-follows g) (newest-in-range g) p ok near
+  counter-answers (moved p ps ok near g) =
+      one-answer bits (newest start ps) (rowRead bits r ps) (counter-follows g) (newest-in-range g) p ok near

@@ -89,11 +89,13 @@ pub read-kept : (x : Axis) (p : ℤ) → inRange p ≡ true → CounterAxis x �
 read-kept x p i k = counter-moved x (wordOf p) (word-holds p i) k (readAxis p x) (read-at x p k)
 
 -- HEADLINE: a reading that is accepted stores the position that it answers, and leaves a counter row a counter.
-pub read-keeps : (x : ℕ) (r q : Row) → readRow x r ≡ To q → (p : ℤ) × (readingRow x r ≡ Number p) × Holds q (statusOf r) (readAxis p (axisOf r))
+pub read-keeps : (x : ℕ) (r q : Row) → readRow x r ≡ To q →
+    (p : ℤ) × (readingRow x r ≡ Number p) × Holds q (statusOf r) (readAxis p (axisOf r))
 unfolding readRow storedRow
 read-keeps x r q e = go (readingRow x r) refl e
   where
-    go : (n : Reckoned) → readingRow x r ≡ n → storedRow r n ≡ To q → (p : ℤ) × (readingRow x r ≡ Number p) × Holds q (statusOf r) (readAxis p (axisOf r))
+    go : (n : Reckoned) → readingRow x r ≡ n → storedRow r n ≡ To q →
+        (p : ℤ) × (readingRow x r ≡ Number p) × Holds q (statusOf r) (readAxis p (axisOf r))
     go (Number p) h k =
         let c = read-counter x r p h .0 in
         (p, h, rw c (to-one k (counter-holds (readAxis p (axisOf r)) (read-kept (axisOf r) p (read-in-range x r p h) (counter-gives r c)))))

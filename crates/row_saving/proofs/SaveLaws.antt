@@ -48,7 +48,8 @@ use Rattle.row_calls.proofs.SetupLaws.{config-holds}
 
 -- The row of what a record says holds the axis that it says.
 said-holds : (said : Saved) → withinLimits said ≡ true →
-    Holds (rowOf (freshAt (said .config) (wordOf (said .position)))) (cond (sampledKind (said .config .kind)) Sampled Counter) (freshAt (said .config) (wordOf (said .position)))
+    Holds (rowOf (freshAt (said .config) (wordOf (said .position)))) (cond (sampledKind (said .config .kind)) Sampled Counter)
+    (freshAt (said .config) (wordOf (said .position)))
 said-holds said e =
     let p = within-parts said e in
     config-holds (said .config) (wordOf (said .position)) (p .0) (word-holds (said .position) (p .1))
@@ -58,7 +59,8 @@ pub restore-refused : (s : List ℕ) (e : Refusal) (r : Row) → readAs s ≡ Un
 unfolding restoreRow restoredBy
 restore-refused s e r h = rw h
 
--- HEADLINE: a restore that is accepted makes a sampled row or a counter, by its kind, with the configuration and the position that the record says.
+-- HEADLINE: a restore that is accepted makes a sampled row or a counter, by its kind, with the configuration and the position that the
+-- record says.
 pub restore-makes : (s : List ℕ) (said : Saved) (r q : Row) → readAs s ≡ Accepted said → restoreRow s r ≡ To q →
     Holds q (cond (sampledKind (said .config .kind)) Sampled Counter) (freshAt (said .config) (wordOf (said .position)))
 unfolding restoreRow restoredBy
@@ -66,15 +68,18 @@ restore-makes s said r q a e = to-one (rw a at e) (said-holds said (accepted-wit
 
 -- HEADLINE: a restore that is accepted is a setup with the record's configuration and then a preset to its position, whatever the row held.
 pub restore-is : (s : List ℕ) (said : Saved) (r : Row) → readAs s ≡ Accepted said →
-    restoreRow s r ≡ andThen (setupRow (said .config .kind) (said .config .depth) (said .config .width) (said .config .turn) r) (presetRow (said .position))
+    restoreRow s r ≡ andThen (setupRow (said .config .kind) (said .config .depth) (said .config .width) (said .config .turn) r)
+    (presetRow (said .position))
 unfolding restoreRow restoredBy setupRow presetRow placeRow changed
 restore-is s said r a =
     let c = said .config in
     let p = said .position in
     let parts = within-parts said (accepted-within s said a) in
     let h = config-holds c (2 ^ 62) (parts .0) origin-holds in
-    let set : placeRow p (rowOf (fresh c)) ≡ To (rowOf (freshAt c (wordOf p))) = rw (parts .1) (ap (λ (x : Axis). To (rowOf (presetAxis p x))) (h .axis)) in
-    rw (a, parts .0) (sym (either-kind Kept (placeRow p (rowOf (fresh c))) (rowOf (fresh c)) (made-live (rowOf (fresh c)) (sampledKind (c .kind)) (h .status)) ∙ set))
+    let set : placeRow p (rowOf (fresh c)) ≡ To (rowOf (freshAt c (wordOf p))) =
+    rw (parts .1) (ap (λ (x : Axis). To (rowOf (presetAxis p x))) (h .axis)) in
+    rw (a, parts .0) (sym (either-kind Kept (placeRow p (rowOf (fresh c))) (rowOf (fresh c))
+    (made-live (rowOf (fresh c)) (sampledKind (c .kind)) (h .status)) ∙ set))
 
 -- ---- what is saved
 
@@ -120,7 +125,8 @@ saved-live : (room n : ℕ) (r : Row) → saveRow room r ≡ Bytes n → Live r
 unfolding saveRow
 saved-live room n r e =
     let w = savedAs room (savedOf (axisOf r)) in
-    ⊎-elim (λ h. inl (h .0)) (λ h. inr (h .0)) (live Unwritten w w (Bytes n) (λ f h. let z : _≡_ {A = ℕ} 0 1 = cc in omega arith) (statusOf r) e)
+    ⊎-elim (λ h. inl (h .0)) (λ h. inr (h .0))
+    (live Unwritten w w (Bytes n) (λ f h. let z : _≡_ {A = ℕ} 0 1 = cc in omega arith) (statusOf r) e)
 
 saved-length : (room n : ℕ) (r : Row) (l : Live r) → saveRow room r ≡ Bytes n → (length (bytes r) ≡ n) × (n ≤ room)
 saved-length room n r l e = go (test (leb (length (bytes r)) room)) (sym (save-answers r l room) ∙ e)
@@ -141,11 +147,13 @@ restored-save b n r q e =
     let a = axisOf r in
     let l = saved-live (length b) n r e in
     let k = saved-length (length b) n r l e in
-    let front : take n (savedIn b r) ≡ bytes r = rw (save-front r l b (rw (k .0) (k .1)), ← k .0) (take-append-seam (bytes r) (drop (length (bytes r)) b)) in
+    let front : take n (savedIn b r) ≡ bytes r =
+    rw (save-front r l b (rw (k .0) (k .1)), ← k .0) (take-append-seam (bytes r) (drop (length (bytes r)) b)) in
     rw (front, read-back (savedOf a) (saved-within r l), word-position (a .word) (live-position r l))
 
 -- HEADLINE: a counter that was saved is restored as it was, all four words.
-pub restored-counter : (b : List ℕ) (n : ℕ) (r q : Row) → Words r → statusOf r ≡ Counter → saveRow (length b) r ≡ Bytes n → restoreRow (take n (savedIn b r)) q ≡ To r
+pub restored-counter : (b : List ℕ) (n : ℕ) (r q : Row) → Words r → statusOf r ≡ Counter → saveRow (length b) r ≡ Bytes n →
+    restoreRow (take n (savedIn b r)) q ≡ To r
 restored-counter b n r q w c e =
     let k = counter-gives r c in
     restored-save b n r q e
@@ -166,7 +174,8 @@ saved-restore s b r q all e room = go (readAs s) refl
         let m = restore-makes s said r q h e in
         let l = made-live q (sampledKind (said .config .kind)) (m .status) in
         let p = within-parts said (accepted-within s said h) .1 in
-        let same : bytes q ≡ s = ap (λ (x : Axis). recordOf (savedOf x)) (m .axis) ∙ rw (position-word (said .position) p) (one-encoding s said all h) in
+        let same : bytes q ≡ s = ap (λ (x : Axis). recordOf (savedOf x)) (m .axis)
+        ∙ rw (position-word (said .position) p) (one-encoding s said all h) in
         (save-answers q l (length b) ∙ rw (same, le-leb (length s) (length b) room), rw same at (save-front q l b (rw same room)))
 
 -- ---- reasons

@@ -192,7 +192,8 @@ pub reading-late : (x : ℕ) (r : Row) → After checked Axis (refusalIn (readin
 unfolding readingRow
 reading-late x r =
     let a = axisOf r in
-    by-status refusalIn Unreckoned (λ e. refl) _ _ (inr (lit< tt)) (late (reading-past (a .config .width) (positionOf (a .word)) x)) (statusOf r)
+    by-status refusalIn Unreckoned (λ e. refl) _ _ (inr (lit< tt)) (late (reading-past (a .config .width) (positionOf (a .word)) x))
+    (statusOf r)
 
 pub speed-late : (rate : ℕ) (r : Row) → After checked Axis (speedRefusal (speedRow rate r))
 unfolding speedRow

@@ -35,4 +35,5 @@ failed-none e = let z : _≡_ {A = ℕ} 0 1 = cc in omega arith
 -- Every read that finds bytes leaves fewer to look at.
 pub fewer-left : (x : Trace) (t : Turn) → InputRead x t → t .input ≡ Bytes → x .samples < LIMIT →
     LIMIT - t .trace .samples < LIMIT - x .samples
-fewer-left x t r e h = let g = fed-grows x (r .feeds .bytes) h (r .some e) in omega (arith, ap (λ (y : Trace). y .samples) (r .feeds .trace))
+fewer-left x t r e h = let g = fed-grows x (r .feeds .bytes) h (r .some e) in
+    omega (arith, ap (λ (y : Trace). y .samples) (r .feeds .trace))

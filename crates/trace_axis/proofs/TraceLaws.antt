@@ -65,7 +65,8 @@ unfolding fedWith tracedBy
 fed-none x = rw (take-nil, add-zero)
 
 -- A byte below the limit is one port sample.
-pub fed-sample : (x : Trace) (b : ℕ) (t : List ℕ) → x .samples < LIMIT → t ≡ sampledTable (x .words) b → record { words = t; samples = x .samples + 1 } ≡ fedWith x (b ∷ [])
+pub fed-sample : (x : Trace) (b : ℕ) (t : List ℕ) → x .samples < LIMIT → t ≡ sampledTable (x .words) b →
+    record { words = t; samples = x .samples + 1 } ≡ fedWith x (b ∷ [])
 unfolding fedWith tracedBy
 fed-sample x b t h e =
     let q : take (LIMIT - x .samples) (b ∷ []) ≡ b ∷ [] = take-all (LIMIT - x .samples) (b ∷ []) (omega arith) in
@@ -153,7 +154,8 @@ samples-rule bs = zero-add _ ∙ length-take LIMIT bs
 -- HEADLINE: after a whole input the axis's row is the one that the sample rule makes of those bytes, by their low four bits.
 pub row-rule : (bs : List ℕ) → rowAt (fedWith started bs .words) 0 ≡ inputRow bs
 unfolding fedWith started
-row-rule bs = row-traced (started .words) (lookedAt (started .samples) bs) start-length ∙ ap (λ (r : Row). steppedBy r (map lowFour (lookedAt 0 bs))) start-row
+row-rule bs = row-traced (started .words) (lookedAt (started .samples) bs) start-length
+    ∙ ap (λ (r : Row). steppedBy r (map lowFour (lookedAt 0 bs))) start-row
 
 -- HEADLINE: the report of a whole input is its samples, and that row's position and doubles.
 pub rule : (bs : List ℕ) → reportOf (fedWith started bs) ≡ inputReport bs

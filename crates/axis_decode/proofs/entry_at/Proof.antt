@@ -5,9 +5,6 @@ use borrow.Author.Needs.{needs}
 use Rattle.axis_decode.proofs.entry_at.Statement.{statement}
 use Rattle.axis_decode.proofs.entry_at.Tie as tie
 
-mark-at-requires : tie.Need-mark-at-requires
-mark-at-requires c κs = search needs
-
 returns : tie.Need-returns
 returns c = told-is (c .before .mark-at .ensures) (ap told (c .if1 .taken))
 
@@ -23,4 +20,5 @@ returns-4 c =
     (rw (ne-eqb _ _ (c .before .before .if1 .left), ne-eqb _ _ (c .before .if2 .left), ne-eqb _ _ (c .if3 .left)))
 
 pub entry-at-spec : {M : Type 1} → statement M
-entry-at-spec = tie.close (tie.spec mark-at-requires returns returns-2 returns-3 returns-4)
+entry-at-spec =
+    tie.close (tie.spec (λ c κs. search needs) returns returns-2 returns-3 returns-4)

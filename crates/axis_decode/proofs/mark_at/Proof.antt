@@ -5,42 +5,15 @@ use borrow.Author.Needs.{needs}
 use Rattle.axis_decode.proofs.mark_at.Statement.{statement}
 use Rattle.axis_decode.proofs.mark_at.Tie as tie
 
-mul-result : tie.Need-mul-result
-mul-result c = search needs
-
-index-1-result : tie.Need-index-1-result
-index-1-result c = search needs
-
-index-2-result : tie.Need-index-2-result
-index-2-result c = search needs
-
 returns : tie.Need-returns
 unfolding tableOf entry mark x4
 returns c = rw (eq-eqb _ _ (c .before .if1 .taken)) (read-in x4 (c .before .before .args .old) (c .before .before .args .new))
-
-mul-result-2 : tie.Need-mul-result-2
-mul-result-2 c = search needs
-
-index-1-result-2 : tie.Need-index-1-result-2
-index-1-result-2 c = search needs
-
-index-2-result-2 : tie.Need-index-2-result-2
-index-2-result-2 c = search needs
 
 returns-2 : tie.Need-returns-2
 unfolding tableOf entry mark x2
 returns-2 c =
     let args = c .before .before .before .args in
     rw (ne-eqb _ _ (c .before .before .if1 .left), eq-eqb _ _ (c .before .if2 .taken)) (read-in x2 (args .old) (args .new))
-
-mul-result-3 : tie.Need-mul-result-3
-mul-result-3 c = search needs
-
-index-1-result-3 : tie.Need-index-1-result-3
-index-1-result-3 c = search needs
-
-index-2-result-3 : tie.Need-index-2-result-3
-index-2-result-3 c = search needs
 
 returns-3 : tie.Need-returns-3
 unfolding tableOf entry mark x1
@@ -52,15 +25,5 @@ pub mark-at-spec : {M : Type 1} → statement M
 mark-at-spec =
     tie.close
     (tie.spec
-    mul-result
-    index-1-result
-    index-2-result
-    returns
-    mul-result-2
-    index-1-result-2
-    index-2-result-2
-    returns-2
-    mul-result-3
-    index-1-result-3
-    index-2-result-3
-    returns-3)
+    (λ c. search needs) (λ c. search needs) (λ c. search needs) returns (λ c. search needs) (λ c. search needs)
+    (λ c. search needs) returns-2 (λ c. search needs) (λ c. search needs) (λ c. search needs) returns-3)

@@ -5,9 +5,6 @@ use borrow.Author.Needs.{needs}
 use Rattle.axis_sound.proofs.axis_in.Statement.{statement}
 use Rattle.axis_sound.proofs.axis_in.Tie as tie
 
-low-requires : tie.Need-low-requires
-low-requires c κs = search needs
-
 unpack-requires : tie.Need-unpack-requires
 unpack-requires c κs = rw (c .low .ensures) (field-below 0 32 (c .before .args .r .w3))
 
@@ -15,4 +12,5 @@ returns : tie.Need-returns
 returns c = c .unpack .ensures ∙ ap axisOf (c .before .low .ensures)
 
 pub axis-in-spec : {M : Type 1} → statement M
-axis-in-spec = tie.close (tie.spec low-requires unpack-requires returns)
+axis-in-spec =
+    tie.close (tie.spec (λ c κs. search needs) unpack-requires returns)

@@ -4,27 +4,15 @@ use Rattle.axis_sound.specs.Sound.{statusOf}
 use Rattle.axis_sound.proofs.classify.Statement.{statement}
 use Rattle.axis_sound.proofs.classify.Tie as tie
 
-is-empty-requires : tie.Need-is-empty-requires
-is-empty-requires c κs = search needs
-
 returns : tie.Need-returns
 unfolding statusOf
 returns c = rw (sym (c .before .is-empty .ensures) ∙ c .if1 .taken)
-
-axis-in-requires : tie.Need-axis-in-requires
-axis-in-requires c κs = search needs
-
-is-sampled-requires : tie.Need-is-sampled-requires
-is-sampled-requires c κs = search needs
 
 returns-2 : tie.Need-returns-2
 unfolding statusOf
 returns-2 c =
     let e = c .before .before .before in
     rw (sym (e .before .is-empty .ensures) ∙ e .if1 .left, sym (c .before .is-sampled .ensures) ∙ c .if2 .taken)
-
-is-counter-requires : tie.Need-is-counter-requires
-is-counter-requires c κs = search needs
 
 returns-3 : tie.Need-returns-3
 unfolding statusOf
@@ -52,11 +40,5 @@ pub classify-spec : {M : Type 1} → statement M
 classify-spec =
     tie.close
     (tie.spec
-    is-empty-requires
-    returns
-    axis-in-requires
-    is-sampled-requires
-    returns-2
-    is-counter-requires
-    returns-3
-    returns-4)
+    (λ c κs. search needs) returns (λ c κs. search needs) (λ c κs. search needs) returns-2 (λ c κs. search needs)
+    returns-3 returns-4)

@@ -3,21 +3,6 @@ use borrow.Author.Needs.{needs}
 use Rattle.axis_sound.proofs.is_broken.Statement.{statement}
 use Rattle.axis_sound.proofs.is_broken.Tie as tie
 
-classify-requires : tie.Need-classify-requires
-classify-requires c κs = search needs
-
-enum-told : tie.Need-enum-told
-enum-told c = search needs
-
-enum-told-2 : tie.Need-enum-told-2
-enum-told-2 c = search needs
-
-enum-told-3 : tie.Need-enum-told-3
-enum-told-3 c = search needs
-
-enum-told-4 : tie.Need-enum-told-4
-enum-told-4 c = search needs
-
 returns : tie.Need-returns
 returns c = rw (sym (c .before .before .classify .ensures) ∙ c .enum-told .given .1)
 
@@ -33,4 +18,6 @@ returns-4 c = rw (sym (c .before .before .classify .ensures) ∙ c .enum-told4 .
 pub is-broken-spec : {M : Type 1} → statement M
 is-broken-spec =
     tie.close
-    (tie.spec classify-requires enum-told enum-told-2 enum-told-3 enum-told-4 returns returns-2 returns-3 returns-4)
+    (tie.spec
+    (λ c κs. search needs) (λ c. search needs) (λ c. search needs) (λ c. search needs) (λ c. search needs) returns
+    returns-2 returns-3 returns-4)

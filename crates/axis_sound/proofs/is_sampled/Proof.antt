@@ -5,17 +5,11 @@ use borrow.Author.Needs.{needs}
 use Rattle.axis_sound.proofs.is_sampled.Statement.{statement}
 use Rattle.axis_sound.proofs.is_sampled.Tie as tie
 
-is-formed-requires : tie.Need-is-formed-requires
-is-formed-requires c κs = search needs
-
 returns : tie.Need-returns
 returns c =
     let f = c .before in
     let s = f .before in
     rw (sym (f .is-formed .ensures) ∙ not-true _ (c .if1 .taken)) at (sampled-by (s .args .r) (s .args .a) (s .pre))
-
-is-paced-requires : tie.Need-is-paced-requires
-is-paced-requires c κs = search needs
 
 returns-2 : tie.Need-returns-2
 returns-2 c =
@@ -26,9 +20,6 @@ returns-2 c =
       sym (f .is-formed .ensures) ∙ not-false _ (p .before .if1 .left),
       sym (p .is-paced .ensures) ∙ not-true _ (c .if2 .taken),
     ) at (sampled-by (s .args .r) (s .args .a) (s .pre))
-
-is-indexed-requires : tie.Need-is-indexed-requires
-is-indexed-requires c κs = search needs
 
 returns-3 : tie.Need-returns-3
 returns-3 c =
@@ -41,9 +32,6 @@ returns-3 c =
       sym (p .is-paced .ensures) ∙ not-false _ (i .before .if2 .left),
       sym (i .is-indexed .ensures) ∙ not-true _ (c .if3 .taken),
     ) at (sampled-by (s .args .r) (s .args .a) (s .pre))
-
-is-ready-requires : tie.Need-is-ready-requires
-is-ready-requires c κs = search needs
 
 returns-4 : tie.Need-returns-4
 returns-4 c =
@@ -62,11 +50,5 @@ pub is-sampled-spec : {M : Type 1} → statement M
 is-sampled-spec =
     tie.close
     (tie.spec
-    is-formed-requires
-    returns
-    is-paced-requires
-    returns-2
-    is-indexed-requires
-    returns-3
-    is-ready-requires
-    returns-4)
+    (λ c κs. search needs) returns (λ c κs. search needs) returns-2 (λ c κs. search needs) returns-3
+    (λ c κs. search needs) returns-4)

@@ -18,9 +18,6 @@ module _ (c : tie.Start) where
   fits : SFits w64 (positionOf (c .args .word))
   fits = fits-size _ (omega (arith, position-small (c .args .word) (c .pre)))
 
-cast-result : tie.Need-cast-result
-cast-result c = search needs
-
 sub-result : tie.Need-sub-result
 unfolding positionOf
 sub-result c = rw (read c) (fits c)
@@ -30,4 +27,5 @@ unfolding positionOf
 returns c = rw (read c, back (fits c))
 
 pub at-word-spec : {M : Type 1} → statement M
-at-word-spec = tie.close (tie.spec cast-result sub-result returns)
+at-word-spec =
+    tie.close (tie.spec (λ c. search needs) sub-result returns)

@@ -2,18 +2,6 @@ use borrow.Author.Needs.{needs}
 use Rattle.row_counter.proofs.answer.Statement.{statement}
 use Rattle.row_counter.proofs.answer.Tie as tie
 
-enum-told : tie.Need-enum-told
-enum-told c = search needs
-
-enum-told-2 : tie.Need-enum-told-2
-enum-told-2 c = search needs
-
-enum-told-3 : tie.Need-enum-told-3
-enum-told-3 c = search needs
-
-enum-told-4 : tie.Need-enum-told-4
-enum-told-4 c = search needs
-
 widened-requires : tie.Need-widened-requires
 widened-requires c κs = c .before .before .before .pre (c .enum-told4 .given .1)
 
@@ -32,4 +20,6 @@ returns-4 c = rw (c .before .enum-told4 .given .1) (c .widened .ensures)
 pub answer-spec : {M : Type 1} → statement M
 answer-spec =
     tie.close
-    (tie.spec enum-told enum-told-2 enum-told-3 enum-told-4 widened-requires returns returns-2 returns-3 returns-4)
+    (tie.spec
+    (λ c. search needs) (λ c. search needs) (λ c. search needs) (λ c. search needs) widened-requires returns returns-2
+    returns-3 returns-4)

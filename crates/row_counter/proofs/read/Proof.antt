@@ -11,20 +11,11 @@ use borrow.Author.Needs.{needs}
 use Rattle.row_counter.proofs.read.Statement.{statement}
 use Rattle.row_counter.proofs.read.Tie as tie
 
-open-requires : tie.Need-open-requires
-open-requires c κs = search needs
-
 answer-requires : tie.Need-answer-requires
 answer-requires c κs e =
     let o = c .before in
     let g = opened-counter (o .before .args .r) (o .open .result) (o .open .ensures) e in
     rw (g .1) (live-position (o .before .args .r) (inr (g .0)))
-
-enum-known-said : tie.Need-enum-known-said
-enum-known-said c = search needs
-
-enum-known-said-2 : tie.Need-enum-known-said-2
-enum-known-said-2 c = search needs
 
 stored-requires : tie.Need-stored-requires
 stored-requires c κs =
@@ -32,7 +23,8 @@ stored-requires c κs =
     let o = a .before .before in
     let s = o .before in
     let p = c .before .said2 .given .0 .0 in
-    let e = sym (a .answer .ensures ∙ opened-reading (s .args .reading) (s .args .r) (o .open .result) (o .open .ensures)) ∙ c .before .said2 .given .1 in
+    let e = sym (a .answer .ensures ∙ opened-reading (s .args .reading) (s .args .r) (o .open .result) (o .open .ensures))
+    ∙ c .before .said2 .given .1 in
     let i = read-in-range (s .args .reading) (s .args .r) p e in
     (opened-narrow (s .args .r) _ (o .open .ensures .1), rw (held-position p i) i)
 
@@ -42,7 +34,8 @@ returns c =
     let a = c .before .before .before in
     let o = a .before .before in
     let s = o .before in
-    let e = sym (a .answer .ensures ∙ opened-reading (s .args .reading) (s .args .r) (o .open .result) (o .open .ensures)) ∙ c .before .said .given .1 in
+    let e = sym (a .answer .ensures ∙ opened-reading (s .args .reading) (s .args .r) (o .open .result) (o .open .ensures))
+    ∙ c .before .said .given .1 in
     (sym e, rw e)
 
 returns-2 : tie.Need-returns-2
@@ -52,12 +45,15 @@ returns-2 c =
     let o = a .before .before in
     let s = o .before in
     let p = c .before .before .said2 .given .0 .0 in
-    let e = sym (a .answer .ensures ∙ opened-reading (s .args .reading) (s .args .r) (o .open .result) (o .open .ensures)) ∙ c .before .before .said2 .given .1 in
+    let e = sym (a .answer .ensures ∙ opened-reading (s .args .reading) (s .args .r) (o .open .result) (o .open .ensures))
+    ∙ c .before .before .said2 .given .1 in
     let i = read-in-range (s .args .reading) (s .args .r) p e in
-    let g = opened-counter (s .args .r) (o .open .result) (o .open .ensures) (o .open .ensures .0 ∙ read-counter (s .args .reading) (s .args .r) p e .0) in
+    let g = opened-counter (s .args .r) (o .open .result) (o .open .ensures)
+    (o .open .ensures .0 ∙ read-counter (s .args .reading) (s .args .r) p e .0) in
     (sym e, rw e (ap To ((rw (held-position p i) at (c .stored .ensures)) ∙ ap (λ (x : Axis). rowOf (readAxis p x)) (g .1))))
 
 pub read-spec : {M : Type 1} → statement M
 read-spec =
     tie.close
-    (tie.spec open-requires answer-requires enum-known-said enum-known-said-2 stored-requires returns returns-2)
+    (tie.spec
+    (λ c κs. search needs) answer-requires (λ c. search needs) (λ c. search needs) stored-requires returns returns-2)

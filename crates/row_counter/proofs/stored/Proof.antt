@@ -7,12 +7,6 @@ use borrow.Author.Needs.{needs}
 use Rattle.row_counter.proofs.stored.Statement.{statement}
 use Rattle.row_counter.proofs.stored.Tie as tie
 
-word-of-requires : tie.Need-word-of-requires
-word-of-requires c κs = search needs
-
-pack-requires : tie.Need-pack-requires
-pack-requires c κs = search needs
-
 returns : tie.Need-returns
 unfolding changed
 returns c =
@@ -22,4 +16,5 @@ returns c =
     c .pack .ensures ∙ ap (λ (n : ℕ). rowOf (changed x n (x .flags) (x .doubles))) w
 
 pub stored-spec : {M : Type 1} → statement M
-stored-spec = tie.close (tie.spec word-of-requires pack-requires returns)
+stored-spec =
+    tie.close (tie.spec (λ c κs. search needs) (λ c κs. search needs) returns)

@@ -5,13 +5,11 @@ use borrow.Author.Needs.{needs}
 use Rattle.row_saving.proofs.kept.Statement.{statement}
 use Rattle.row_saving.proofs.kept.Tie as tie
 
-at-word-requires : tie.Need-at-word-requires
-at-word-requires c κs = search needs
-
 returns : tie.Need-returns
 returns c =
     let f : SFits w64 (c .at-word .result) = search needs in
     rw (back f, c .at-word .ensures)
 
 pub kept-spec : {M : Type 1} → statement M
-kept-spec = tie.close (tie.spec at-word-requires returns)
+kept-spec =
+    tie.close (tie.spec (λ c κs. search needs) returns)

@@ -25,26 +25,16 @@ module _ (c : tie.After-struct-told) where
   accepted : readAs (c .before .before .before .before .before .before .before .args .slice .now) ≡ Accepted said
   accepted = sym (c .before .before .before .before .before .read .ensures) ∙ c .before .before .before .saved .given .1
 
-  limits : (goodConfig (said .config .kind) (said .config .depth) (said .config .width) (said .config .turn) ≡ true) × (inRange (said .position) ≡ true)
+  limits : (goodConfig (said .config .kind) (said .config .depth) (said .config .width) (said .config .turn) ≡ true)
+      × (inRange (said .position) ≡ true)
   limits = within-parts said (accepted-within _ said accepted)
-
-read-requires : tie.Need-read-requires
-read-requires c κs = search needs
-
-enum-known-e : tie.Need-enum-known-e
-enum-known-e c = search needs
-
-enum-known-saved : tie.Need-enum-known-saved
-enum-known-saved c = search needs
 
 word-of-requires : tie.Need-word-of-requires
 word-of-requires c κs = rw (held-position _ (limits c .1)) (limits c .1)
 
-setup-at-requires : tie.Need-setup-at-requires
-setup-at-requires c κs = search needs
-
 pack-requires : tie.Need-pack-requires
-pack-requires c κs = subst Narrow (sym (c .setup-at .ensures)) (setup-held (said (c .before .before) .config) _ (limits (c .before .before) .0) .narrow)
+pack-requires c κs = subst Narrow (sym (c .setup-at .ensures))
+    (setup-held (said (c .before .before) .config) _ (limits (c .before .before) .0) .narrow)
 
 returns : tie.Need-returns
 unfolding restoreRow restoredBy
@@ -64,11 +54,5 @@ pub restore-spec : {M : Type 1} → statement M
 restore-spec =
     tie.close
     (tie.spec
-    read-requires
-    enum-known-e
-    enum-known-saved
-    word-of-requires
-    setup-at-requires
-    pack-requires
-    returns
-    returns-2)
+    (λ c κs. search needs) (λ c. search needs) (λ c. search needs) word-of-requires (λ c κs. search needs)
+    pack-requires returns returns-2)

@@ -9,38 +9,17 @@ use borrow.Author.Needs.{needs}
 use Rattle.row_saving.proofs.save.Statement.{statement}
 use Rattle.row_saving.proofs.save.Tie as tie
 
-open-requires : tie.Need-open-requires
-open-requires c κs = search needs
-
-enum-told : tie.Need-enum-told
-enum-told c = search needs
-
-enum-told-2 : tie.Need-enum-told-2
-enum-told-2 c = search needs
-
-enum-told-3 : tie.Need-enum-told-3
-enum-told-3 c = search needs
-
 kept-requires : tie.Need-kept-requires
 kept-requires c κs =
     let o = c .before .before .before .before in
     let g = opened-sampled (o .before .before .args .r) (o .open .result) (o .open .ensures) (c .before .enum-told3 .given .1) in
     rw (g .1) (live-position (o .before .before .args .r) (inl (g .0)))
 
-save-requires : tie.Need-save-requires
-save-requires c κs = search needs
-
-enum-told-4 : tie.Need-enum-told-4
-enum-told-4 c = search needs
-
 kept-requires-2 : tie.Need-kept-requires-2
 kept-requires-2 c κs =
     let o = c .before .before .before .before in
     let g = opened-counter (o .before .before .args .r) (o .open .result) (o .open .ensures) (c .before .enum-told4 .given .1) in
     rw (g .1) (live-position (o .before .before .args .r) (inr (g .0)))
-
-save-requires-2 : tie.Need-save-requires-2
-save-requires-2 c κs = search needs
 
 returns : tie.Need-returns
 unfolding saveRow savedIn
@@ -49,9 +28,6 @@ returns c = let e = sym (c .before .before .before .open .ensures .0) ∙ c .enu
 returns-2 : tie.Need-returns-2
 unfolding saveRow savedIn
 returns-2 c = let e = sym (c .before .before .before .open .ensures .0) ∙ c .enum-told2 .given .1 in (rw e, rw e)
-
-same-length : tie.Need-same-length
-same-length c = search needs
 
 returns-3 : tie.Need-returns-3
 unfolding saveRow savedIn
@@ -63,9 +39,6 @@ returns-3 c =
     let k = c .before .before .before .kept .ensures ∙ ap savedOf (g .1) in
     let w = c .before .before .save .ensures in
     (rw (g .0) (w .0 ∙ ap (savedAs (length b)) k), rw (g .0) (w .1 ∙ ap (written b) k))
-
-same-length-2 : tie.Need-same-length-2
-same-length-2 c = search needs
 
 returns-4 : tie.Need-returns-4
 unfolding saveRow savedIn
@@ -82,18 +55,6 @@ pub save-spec : {M : Type 1} → statement M
 save-spec =
     tie.close
     (tie.spec
-    open-requires
-    enum-told
-    enum-told-2
-    enum-told-3
-    kept-requires
-    save-requires
-    enum-told-4
-    kept-requires-2
-    save-requires-2
-    returns
-    returns-2
-    same-length
-    returns-3
-    same-length-2
-    returns-4)
+    (λ c κs. search needs) (λ c. search needs) (λ c. search needs) (λ c. search needs) kept-requires
+    (λ c κs. search needs) (λ c. search needs) kept-requires-2 (λ c κs. search needs) returns returns-2
+    (λ c. search needs) returns-3 (λ c. search needs) returns-4)

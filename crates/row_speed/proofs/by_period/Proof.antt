@@ -14,9 +14,6 @@ use Rattle.row_speed.proofs.by_period.Tie as tie
 good : (c : tie.Else1) → goodRate (c .before .before .args .rate) ≡ true
 good c = sym (c .before .is-rate .ensures) ∙ not-false _ (c .if1 .left)
 
-is-rate-requires : tie.Need-is-rate-requires
-is-rate-requires c κs = search needs
-
 returns : tie.Need-returns
 unfolding speedOf
 returns c = rw (sym (c .before .is-rate .ensures) ∙ not-true _ (c .if1 .taken))
@@ -24,15 +21,6 @@ returns c = rw (sym (c .before .is-rate .ensures) ∙ not-true _ (c .if1 .taken)
 returns-2 : tie.Need-returns-2
 unfolding speedOf
 returns-2 c = rw (good (c .before .before), eq-eqb (c .before .before .before .before .args .p .period) 0 (c .if2 .taken))
-
-sign-requires : tie.Need-sign-requires
-sign-requires c κs = search needs
-
-larger-requires : tie.Need-larger-requires
-larger-requires c κs = search needs
-
-by-count-requires : tie.Need-by-count-requires
-by-count-requires c κs = search needs
 
 returns-3 : tie.Need-returns-3
 unfolding speedOf
@@ -47,10 +35,5 @@ pub by-period-spec : {M : Type 1} → statement M
 by-period-spec =
     tie.close
     (tie.spec
-    is-rate-requires
-    returns
-    returns-2
-    sign-requires
-    larger-requires
-    by-count-requires
+    (λ c κs. search needs) returns returns-2 (λ c κs. search needs) (λ c κs. search needs) (λ c κs. search needs)
     returns-3)

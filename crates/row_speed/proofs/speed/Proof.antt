@@ -6,24 +6,6 @@ use borrow.Author.Needs.{needs}
 use Rattle.row_speed.proofs.speed.Statement.{statement}
 use Rattle.row_speed.proofs.speed.Tie as tie
 
-open-requires : tie.Need-open-requires
-open-requires c κs = search needs
-
-enum-told : tie.Need-enum-told
-enum-told c = search needs
-
-enum-told-2 : tie.Need-enum-told-2
-enum-told-2 c = search needs
-
-enum-told-3 : tie.Need-enum-told-3
-enum-told-3 c = search needs
-
-enum-told-4 : tie.Need-enum-told-4
-enum-told-4 c = search needs
-
-by-period-requires : tie.Need-by-period-requires
-by-period-requires c κs = search needs
-
 returns : tie.Need-returns
 unfolding speedRow
 returns c = rw (sym (c .before .before .before .open .ensures .0) ∙ c .enum-told .given .1)
@@ -47,13 +29,5 @@ pub speed-spec : {M : Type 1} → statement M
 speed-spec =
     tie.close
     (tie.spec
-    open-requires
-    enum-told
-    enum-told-2
-    enum-told-3
-    enum-told-4
-    by-period-requires
-    returns
-    returns-2
-    returns-3
-    returns-4)
+    (λ c κs. search needs) (λ c. search needs) (λ c. search needs) (λ c. search needs) (λ c. search needs)
+    (λ c κs. search needs) returns returns-2 returns-3 returns-4)

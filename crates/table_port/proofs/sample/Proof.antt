@@ -24,9 +24,6 @@ Inv-loop table₀ port n masks₀ k₀ table masks k = Reached table₀ port n t
 abbrev μ-loop : tie.MeasureT-loop
 μ-loop table₀ port n masks₀ k₀ table masks k = n - k
 
-axes-in-requires : tie.Need-axes-in-requires Inv-loop μ-loop
-axes-in-requires c κs = search needs
-
 returns-2 : tie.Need-returns-2 Inv-loop μ-loop
 returns-2 c =
     let v = c .before .loop .inv in
@@ -62,12 +59,6 @@ note-requires c κs =
     let i = c .before .before .before .before in
     (small i, rw (i .before .loop .inv .masks) (masks-below _ _ _))
 
-add-k : tie.Need-add-k Inv-loop μ-loop
-add-k c = search needs
-
-loop-less : tie.Need-loop-less Inv-loop μ-loop
-loop-less c = search needs
-
 loop-again : tie.Need-loop-again Inv-loop μ-loop
 loop-again c =
     let a = c .before .before .before .before .before .before .before .before .before .before .args in
@@ -85,15 +76,5 @@ pub sample-spec : {M : Type 1} → statement M
 sample-spec =
     tie.close
     (tie.spec
-    Inv-loop
-    μ-loop
-    axes-in-requires
-    returns
-    loop-holds
-    sample-row-requires
-    note-requires
-    add-k
-    loop-less
-    loop-again
-    same-length
-    returns-2)
+    Inv-loop μ-loop (λ c κs. search needs) returns loop-holds sample-row-requires note-requires (λ c. search needs)
+    (λ c. search needs) loop-again same-length returns-2)

@@ -5,17 +5,11 @@ use Rattle.table_port.proofs.sample_row.Tie as tie
 read-row-requires : tie.Need-read-row-requires
 read-row-requires c κs = c .before .before .pre .1
 
-nibble-requires : tie.Need-nibble-requires
-nibble-requires c κs = search needs
-
 step-row-requires : tie.Need-step-row-requires
 step-row-requires c κs = tt
 
 write-row-requires : tie.Need-write-row-requires
 write-row-requires c κs = c .before .before .before .before .before .before .before .pre .1
-
-same-length : tie.Need-same-length
-same-length c = search needs
 
 returns : tie.Need-returns
 returns c =
@@ -34,9 +28,4 @@ pub sample-row-spec : {M : Type 1} → statement M
 sample-row-spec =
     tie.close
     (tie.spec
-    read-row-requires
-    nibble-requires
-    step-row-requires
-    write-row-requires
-    same-length
-    returns)
+    read-row-requires (λ c κs. search needs) step-row-requires write-row-requires (λ c. search needs) returns)

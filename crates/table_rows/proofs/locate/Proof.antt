@@ -9,9 +9,6 @@ use borrow.Author.Needs.{needs}
 use Rattle.table_rows.proofs.locate.Statement.{statement}
 use Rattle.table_rows.proofs.locate.Tie as tie
 
-axes-in-requires : tie.Need-axes-in-requires
-axes-in-requires c κs = search needs
-
 returns : tie.Need-returns
 returns c = found-none _ _ (omega arith)
 
@@ -25,4 +22,5 @@ returns-3 : tie.Need-returns-3
 returns-3 c = found-past _ _ (omega arith) (omega arith)
 
 pub locate-spec : {M : Type 1} → statement M
-locate-spec = tie.close (tie.spec axes-in-requires returns read-row-requires returns-2 returns-3)
+locate-spec =
+    tie.close (tie.spec (λ c κs. search needs) returns read-row-requires returns-2 returns-3)

@@ -14,23 +14,8 @@ Inv-loop buf₀ trace₀ buf trace = Feeds started trace
 abbrev μ-loop : tie.MeasureT-loop
 μ-loop buf₀ trace₀ buf trace = LIMIT - trace .samples
 
-large-buffer-requires : tie.Need-large-buffer-requires Inv-loop μ-loop
-large-buffer-requires c κs = search needs
-
-slice-aggregate-buf : tie.Need-slice-aggregate-buf Inv-loop μ-loop
-slice-aggregate-buf c = search needs
-
-start-requires : tie.Need-start-requires Inv-loop μ-loop
-start-requires c κs = search needs
-
 loop-holds : tie.Need-loop-holds Inv-loop μ-loop
 loop-holds c = rw (c .start .ensures) (feeds-none started)
-
-read-once-requires : tie.Need-read-once-requires Inv-loop μ-loop
-read-once-requires c κs = search needs
-
-enum-told : tie.Need-enum-told Inv-loop μ-loop
-enum-told c = search needs
 
 loop-less : tie.Need-loop-less Inv-loop μ-loop
 loop-less c =
@@ -39,10 +24,12 @@ loop-less c =
     fewer-left x (r .result) (r .ensures) (c .enum-told .given .1) (omega arith)
 
 loop-again : tie.Need-loop-again Inv-loop μ-loop
-loop-again c = feeds-on (c .before .before .before .before .before .before .before .before .before .loop .inv) (c .before .before .before .before .before .read-once .ensures .feeds)
+loop-again c = feeds-on (c .before .before .before .before .before .before .before .before .before .loop .inv)
+    (c .before .before .before .before .before .read-once .ensures .feeds)
 
 returns : tie.Need-returns Inv-loop μ-loop
-returns c = feeds-on (c .before .before .before .before .before .before .before .before .before .loop .inv) (c .before .before .before .before .before .read-once .ensures .feeds)
+returns c = feeds-on (c .before .before .before .before .before .before .before .before .before .loop .inv)
+    (c .before .before .before .before .before .read-once .ensures .feeds)
 
 returns-2 : tie.Need-returns-2 Inv-loop μ-loop
 returns-2 c = c .before .before .before .loop .inv
@@ -51,15 +38,5 @@ pub read-all-spec : {M : Type 1} → statement M
 read-all-spec =
     tie.close
     (tie.spec
-    Inv-loop
-    μ-loop
-    large-buffer-requires
-    slice-aggregate-buf
-    start-requires
-    loop-holds
-    read-once-requires
-    enum-told
-    loop-less
-    loop-again
-    returns
-    returns-2)
+    Inv-loop μ-loop (λ c κs. search needs) (λ c. search needs) (λ c κs. search needs) loop-holds
+    (λ c κs. search needs) (λ c. search needs) loop-less loop-again returns returns-2)

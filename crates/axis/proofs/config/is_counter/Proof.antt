@@ -2,11 +2,9 @@ use borrow.Author.Needs.{needs}
 use Rattle.axis.proofs.config.is_counter.Statement.{statement}
 use Rattle.axis.proofs.config.is_counter.Tie as tie
 
-is-counter-requires : tie.Need-is-counter-requires
-is-counter-requires c κs = search needs
-
 returns : tie.Need-returns
 returns c = rw (c .is-counter .ensures)
 
 pub is-counter-spec : {M : Type 1} → statement M
-is-counter-spec = tie.close (tie.spec is-counter-requires returns)
+is-counter-spec =
+    tie.close (tie.spec (λ c κs. search needs) returns)

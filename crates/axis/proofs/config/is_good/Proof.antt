@@ -3,15 +3,10 @@ use Rattle.axis.specs.Config.{goodConfig}
 use Rattle.axis.proofs.config.is_good.Statement.{statement}
 use Rattle.axis.proofs.config.is_good.Tie as tie
 
-is-sampled-requires : tie.Need-is-sampled-requires
-is-sampled-requires c κs = search needs
-
-is-counter-requires : tie.Need-is-counter-requires
-is-counter-requires c κs = search needs
-
 returns : tie.Need-returns
 unfolding goodConfig
 returns c = rw (c .before .is-sampled .ensures, c .is-counter .ensures)
 
 pub is-good-spec : {M : Type 1} → statement M
-is-good-spec = tie.close (tie.spec is-sampled-requires is-counter-requires returns)
+is-good-spec =
+    tie.close (tie.spec (λ c κs. search needs) (λ c κs. search needs) returns)

@@ -8,9 +8,6 @@ returns : tie.Need-returns
 unfolding filterLine
 returns c = rw (c .if1 .taken)
 
-add-run : tie.Need-add-run
-add-run c = search needs
-
 returns-3 : tie.Need-returns-3
 unfolding filterLine
 returns-3 c = rw (c .before .before .if1 .left, ne-eqb _ _ (c .if2 .left))
@@ -20,4 +17,5 @@ unfolding filterLine
 returns-2 c = rw (c .before .before .if1 .left, eq-eqb _ _ (c .if2 .taken))
 
 pub filter-line-spec : {M : Type 1} → statement M
-filter-line-spec = tie.close (tie.spec returns add-run returns-2 returns-3)
+filter-line-spec =
+    tie.close (tie.spec returns (λ c. search needs) returns-2 returns-3)

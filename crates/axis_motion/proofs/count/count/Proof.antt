@@ -4,31 +4,13 @@ use borrow.Author.Needs.{needs}
 use Rattle.axis_motion.proofs.count.count.Statement.{statement}
 use Rattle.axis_motion.proofs.count.count.Tie as tie
 
-enum-told : tie.Need-enum-told
-enum-told c = search needs
-
-enum-told-2 : tie.Need-enum-told-2
-enum-told-2 c = search needs
-
-add-t6 : tie.Need-add-t6
-add-t6 c = search needs
-
 returns : tie.Need-returns
 unfolding countedWord countedRange
 returns c = rw (c .before .enum-told2 .given .1, lt-ltb _ _ (c .if1 .taken))
 
-enum-told-3 : tie.Need-enum-told-3
-enum-told-3 c = search needs
-
-sub-t8 : tie.Need-sub-t8
-sub-t8 c = search needs
-
 returns-2 : tie.Need-returns-2
 unfolding countedWord countedRange
 returns-2 c = rw (c .before .enum-told3 .given .1, lt-ltb _ _ (c .if2 .taken))
-
-enum-told-4 : tie.Need-enum-told-4
-enum-told-4 c = search needs
 
 returns-3 : tie.Need-returns-3
 unfolding countedWord countedRange
@@ -50,15 +32,5 @@ pub count-spec : {M : Type 1} → statement M
 count-spec =
     tie.close
     (tie.spec
-    enum-told
-    enum-told-2
-    add-t6
-    returns
-    enum-told-3
-    sub-t8
-    returns-2
-    enum-told-4
-    returns-3
-    returns-4
-    returns-5
-    returns-6)
+    (λ c. search needs) (λ c. search needs) (λ c. search needs) returns (λ c. search needs) (λ c. search needs)
+    returns-2 (λ c. search needs) returns-3 returns-4 returns-5 returns-6)

@@ -4,12 +4,6 @@ use borrow.Author.Needs.{needs}
 use Rattle.axis_motion.proofs.count.count_doubles.Statement.{statement}
 use Rattle.axis_motion.proofs.count.count_doubles.Tie as tie
 
-is-double-requires : tie.Need-is-double-requires
-is-double-requires c κs = search needs
-
-add-result : tie.Need-add-result
-add-result c = search needs
-
 returns : tie.Need-returns
 unfolding countedDoubles
 returns c = rw (← (c .before .before .is-double .ensures), c .before .if1 .taken) (omega arith)
@@ -23,4 +17,5 @@ unfolding countedDoubles
 returns-3 c = rw (← (c .before .is-double .ensures), c .if1 .left)
 
 pub count-doubles-spec : {M : Type 1} → statement M
-count-doubles-spec = tie.close (tie.spec is-double-requires add-result returns returns-2 returns-3)
+count-doubles-spec =
+    tie.close (tie.spec (λ c κs. search needs) (λ c. search needs) returns returns-2 returns-3)

@@ -3,9 +3,6 @@ use borrow.Author.Needs.{needs}
 use Rattle.axis_motion.proofs.index.check.Statement.{statement}
 use Rattle.axis_motion.proofs.index.check.Tie as tie
 
-off-turn-requires : tie.Need-off-turn-requires
-off-turn-requires c κs = search needs
-
 returns : tie.Need-returns
 returns c = rw (c .off-turn .ensures, c .before .if1 .taken)
 
@@ -13,4 +10,5 @@ returns-2 : tie.Need-returns-2
 returns-2 c = rw (c .if1 .left, or-false (c .before .args .index))
 
 pub check-spec : {M : Type 1} → statement M
-check-spec = tie.close (tie.spec off-turn-requires returns returns-2)
+check-spec =
+    tie.close (tie.spec (λ c κs. search needs) returns returns-2)

@@ -3,9 +3,6 @@ use borrow.Author.Needs.{needs}
 use Rattle.axis_motion.proofs.index.distance.Statement.{statement}
 use Rattle.axis_motion.proofs.index.distance.Tie as tie
 
-sub-result : tie.Need-sub-result
-sub-result c = search needs
-
 returns : tie.Need-returns
 returns c = far-below (c .before .args .word) (c .if1 .taken)
 
@@ -13,4 +10,5 @@ returns-2 : tie.Need-returns-2
 returns-2 c = far-above (c .before .args .word) (c .if1 .left)
 
 pub distance-spec : {M : Type 1} → statement M
-distance-spec = tie.close (tie.spec sub-result returns returns-2)
+distance-spec =
+    tie.close (tie.spec (λ c. search needs) returns returns-2)

@@ -9,15 +9,10 @@ returns : tie.Need-returns
 unfolding offTurn
 returns c = rw (c .if1 .taken)
 
-distance-requires : tie.Need-distance-requires
-distance-requires c κs = search needs
-
-rem-result : tie.Need-rem-result
-rem-result c = search needs
-
 returns-2 : tie.Need-returns-2
 unfolding offTurn
 returns-2 c = rw (c .distance .ensures, lt-ltb 0 (c .before .before .args .turn) (omega arith))
 
 pub off-turn-spec : {M : Type 1} → statement M
-off-turn-spec = tie.close (tie.spec returns distance-requires rem-result returns-2)
+off-turn-spec =
+    tie.close (tie.spec returns (λ c κs. search needs) (λ c. search needs) returns-2)

@@ -4,9 +4,6 @@ use borrow.Author.Needs.{needs}
 use Rattle.axis_motion.proofs.pace.older_by_one.Statement.{statement}
 use Rattle.axis_motion.proofs.pace.older_by_one.Tie as tie
 
-add-result : tie.Need-add-result
-add-result c = search needs
-
 returns : tie.Need-returns
 unfolding older
 returns c = omega arith
@@ -16,4 +13,5 @@ unfolding older
 returns-2 c = omega arith
 
 pub older-by-one-spec : {M : Type 1} → statement M
-older-by-one-spec = tie.close (tie.spec add-result returns returns-2)
+older-by-one-spec =
+    tie.close (tie.spec (λ c. search needs) returns returns-2)

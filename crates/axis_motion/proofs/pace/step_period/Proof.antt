@@ -3,9 +3,6 @@ use borrow.Author.Needs.{needs}
 use Rattle.axis_motion.proofs.pace.step_period.Statement.{statement}
 use Rattle.axis_motion.proofs.pace.step_period.Tie as tie
 
-older-by-one-requires : tie.Need-older-by-one-requires
-older-by-one-requires c κs = search needs
-
 returns : tie.Need-returns
 unfolding stepPeriod
 returns c = rw (← (c .before .older-by-one .ensures), c .if1 .taken)
@@ -15,4 +12,5 @@ unfolding stepPeriod
 returns-2 c = rw (← (c .before .older-by-one .ensures), c .if1 .left)
 
 pub step-period-spec : {M : Type 1} → statement M
-step-period-spec = tie.close (tie.spec older-by-one-requires returns returns-2)
+step-period-spec =
+    tie.close (tie.spec (λ c κs. search needs) returns returns-2)

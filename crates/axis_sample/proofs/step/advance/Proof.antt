@@ -6,33 +6,12 @@ use borrow.Author.Needs.{needs}
 use Rattle.axis_sample.proofs.step.advance.Statement.{statement}
 use Rattle.axis_sample.proofs.step.advance.Tie as tie
 
-lines-of-requires : tie.Need-lines-of-requires
-lines-of-requires c κs = search needs
-
 filter-requires : tie.Need-filter-requires
 filter-requires c κs = rw (c .lines-of .ensures) (c .before .before .pre)
-
-array-read-move-between : tie.Need-array-read-move-between
-array-read-move-between c = search needs
-
-array-read-move-between-2 : tie.Need-array-read-move-between-2
-array-read-move-between-2 c = search needs
-
-move-between-requires : tie.Need-move-between-requires
-move-between-requires c κs = search needs
-
-array-read-z-rises : tie.Need-array-read-z-rises
-array-read-z-rises c = search needs
-
-z-rises-requires : tie.Need-z-rises-requires
-z-rises-requires c κs = search needs
 
 settled-requires : tie.Need-settled-requires
 unfolding moveTo rises line placeOf three
 settled-requires c κs = (c .before .move-between .ensures, c .z-rises .ensures)
-
-is-double-requires : tie.Need-is-double-requires
-is-double-requires c κs = search needs
 
 returns : tie.Need-returns
 unfolding outcome
@@ -52,13 +31,5 @@ pub advance-spec : {M : Type 1} → statement M
 advance-spec =
     tie.close
     (tie.spec
-    lines-of-requires
-    filter-requires
-    array-read-move-between
-    array-read-move-between-2
-    move-between-requires
-    array-read-z-rises
-    z-rises-requires
-    settled-requires
-    is-double-requires
-    returns)
+    (λ c κs. search needs) filter-requires (λ c. search needs) (λ c. search needs) (λ c κs. search needs)
+    (λ c. search needs) (λ c κs. search needs) settled-requires (λ c κs. search needs) returns)

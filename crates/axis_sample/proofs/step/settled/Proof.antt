@@ -4,21 +4,6 @@ use borrow.Author.Needs.{needs}
 use Rattle.axis_sample.proofs.step.settled.Statement.{statement}
 use Rattle.axis_sample.proofs.step.settled.Tie as tie
 
-count-requires : tie.Need-count-requires
-count-requires c κs = search needs
-
-check-requires : tie.Need-check-requires
-check-requires c κs = search needs
-
-paced-requires : tie.Need-paced-requires
-paced-requires c κs = search needs
-
-home-requires : tie.Need-home-requires
-home-requires c κs = search needs
-
-count-doubles-requires : tie.Need-count-doubles-requires
-count-doubles-requires c κs = search needs
-
 returns : tie.Need-returns
 unfolding settle three
 returns c =
@@ -36,4 +21,8 @@ returns c =
     )
 
 pub settled-spec : {M : Type 1} → statement M
-settled-spec = tie.close (tie.spec count-requires check-requires paced-requires home-requires count-doubles-requires returns)
+settled-spec =
+    tie.close
+    (tie.spec
+    (λ c κs. search needs) (λ c κs. search needs) (λ c κs. search needs) (λ c κs. search needs) (λ c κs. search needs)
+    returns)

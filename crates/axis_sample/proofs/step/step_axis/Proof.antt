@@ -3,19 +3,14 @@ use borrow.Author.Needs.{needs}
 use Rattle.axis_sample.proofs.step.step_axis.Statement.{statement}
 use Rattle.axis_sample.proofs.step.step_axis.Tie as tie
 
-advance-requires : tie.Need-advance-requires
-advance-requires c κs = search needs
-
 returns : tie.Need-returns
 unfolding stepAxis
 returns c = rw (c .advance .ensures, c .before .if1 .taken)
-
-prime-requires : tie.Need-prime-requires
-prime-requires c κs = search needs
 
 returns-2 : tie.Need-returns-2
 unfolding stepAxis
 returns-2 c = rw (c .prime .ensures, c .before .if1 .left)
 
 pub step-axis-spec : {M : Type 1} → statement M
-step-axis-spec = tie.close (tie.spec advance-requires returns prime-requires returns-2)
+step-axis-spec =
+    tie.close (tie.spec (λ c κs. search needs) returns (λ c κs. search needs) returns-2)

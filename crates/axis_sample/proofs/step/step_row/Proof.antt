@@ -8,12 +8,6 @@ use borrow.Author.Needs.{needs}
 use Rattle.axis_sample.proofs.step.step_row.Statement.{statement}
 use Rattle.axis_sample.proofs.step.step_row.Tie as tie
 
-axis-in-requires : tie.Need-axis-in-requires
-axis-in-requires c κs = search needs
-
-is-sampled-requires : tie.Need-is-sampled-requires
-is-sampled-requires c κs = search needs
-
 step-sampled-requires : tie.Need-step-sampled-requires
 step-sampled-requires c κs =
     let s = c .before in
@@ -30,26 +24,16 @@ returns c =
     let g = sampled-opens (b .r) _ (x .axis-in .ensures) (sym (s .is-sampled .ensures) ∙ c .before .if1 .taken) in
     c .step-sampled .ensures ∙ ap (λ (a : Axis). packed (stepAxis a (rawOf (b .nibble)))) (g .1) ∙ sym (row-steps (b .r) (b .nibble) (g .0))
 
-is-broken-requires : tie.Need-is-broken-requires
-is-broken-requires c κs = search needs
-
-keep-requires : tie.Need-keep-requires
-keep-requires c κs = search needs
-
 returns-2 : tie.Need-returns-2
 returns-2 c =
     let s = c .before .before .before in
     let b = s .before .before .args in
-    rw (c .keep .ensures, c .before .is-broken .ensures) (sym (other-stays (b .r) (b .nibble) (sym (s .is-sampled .ensures) ∙ c .before .before .if1 .left)))
+    rw (c .keep .ensures, c .before .is-broken .ensures)
+    (sym (other-stays (b .r) (b .nibble) (sym (s .is-sampled .ensures) ∙ c .before .before .if1 .left)))
 
 pub step-row-spec : {M : Type 1} → statement M
 step-row-spec =
     tie.close
     (tie.spec
-    axis-in-requires
-    is-sampled-requires
-    step-sampled-requires
-    returns
-    is-broken-requires
-    keep-requires
-    returns-2)
+    (λ c κs. search needs) (λ c κs. search needs) step-sampled-requires returns (λ c κs. search needs)
+    (λ c κs. search needs) returns-2)

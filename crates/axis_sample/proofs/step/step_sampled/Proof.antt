@@ -4,9 +4,6 @@ use borrow.Author.Needs.{needs}
 use Rattle.axis_sample.proofs.step.step_sampled.Statement.{statement}
 use Rattle.axis_sample.proofs.step.step_sampled.Tie as tie
 
-raw-of-requires : tie.Need-raw-of-requires
-raw-of-requires c κs = search needs
-
 step-axis-requires : tie.Need-step-axis-requires
 step-axis-requires c κs = sampled-short (c .before .pre)
 
@@ -20,4 +17,4 @@ returns c = rw (c .pack .ensures, c .before .before .step-axis .ensures, c .befo
 
 pub step-sampled-spec : {M : Type 1} → statement M
 step-sampled-spec =
-    tie.close (tie.spec raw-of-requires step-axis-requires pack-requires returns)
+    tie.close (tie.spec (λ c κs. search needs) step-axis-requires pack-requires returns)

@@ -5,14 +5,9 @@ use Rattle.host_answers.specs.Answer.{answerSpeed}
 use Rattle.host.proofs.reckoning.ubrenchip_speed_by_count.Statement.{statement}
 use Rattle.host.proofs.reckoning.ubrenchip_speed_by_count.Tie as tie
 
-by-count-requires : tie.Need-by-count-requires
-by-count-requires c κs = search needs
-
-of-speed-requires : tie.Need-of-speed-requires
-of-speed-requires c κs = search needs
-
 returns : tie.Need-returns
 returns c = c .of-speed .ensures ∙ ap answerSpeed (rw (back (c .before .before .fits .difference)) at (c .before .by-count .ensures))
 
 pub ubrenchip-speed-by-count-spec : {M : Type 1} → statement M
-ubrenchip-speed-by-count-spec = tie.close (tie.spec by-count-requires of-speed-requires returns)
+ubrenchip-speed-by-count-spec =
+    tie.close (tie.spec (λ c κs. search needs) (λ c κs. search needs) returns)

@@ -5,14 +5,9 @@ use Rattle.host_answers.specs.Answer.{answerTo}
 use Rattle.host.proofs.reckoning.ubrenchip_widen.Statement.{statement}
 use Rattle.host.proofs.reckoning.ubrenchip_widen.Tie as tie
 
-widen-requires : tie.Need-widen-requires
-widen-requires c κs = search needs
-
-of-reckoned-requires : tie.Need-of-reckoned-requires
-of-reckoned-requires c κs = search needs
-
 returns : tie.Need-returns
 returns c = c .of-reckoned .ensures ∙ ap answerTo (rw (back (c .before .before .fits .position)) at (c .before .widen .ensures))
 
 pub ubrenchip-widen-spec : {M : Type 1} → statement M
-ubrenchip-widen-spec = tie.close (tie.spec widen-requires of-reckoned-requires returns)
+ubrenchip-widen-spec =
+    tie.close (tie.spec (λ c κs. search needs) (λ c κs. search needs) returns)

@@ -6,18 +6,6 @@ use borrow.Author.Needs.{needs}
 use Rattle.host_answers.proofs.answer.of_reckoned.Statement.{statement}
 use Rattle.host_answers.proofs.answer.of_reckoned.Tie as tie
 
-enum-known-r : tie.Need-enum-known-r
-enum-known-r c = search needs
-
-of-value-requires : tie.Need-of-value-requires
-of-value-requires c κs = search needs
-
-enum-known-r-2 : tie.Need-enum-known-r-2
-enum-known-r-2 c = search needs
-
-of-refusal-requires : tie.Need-of-refusal-requires
-of-refusal-requires c κs = search needs
-
 returns : tie.Need-returns
 unfolding answerTo
 returns c =
@@ -31,4 +19,5 @@ returns-2 c = rw (c .before .before .r2 .given .1) (c .of-refusal .ensures)
 pub of-reckoned-spec : {M : Type 1} → statement M
 of-reckoned-spec =
     tie.close
-    (tie.spec enum-known-r of-value-requires enum-known-r-2 of-refusal-requires returns returns-2)
+    (tie.spec
+    (λ c. search needs) (λ c κs. search needs) (λ c. search needs) (λ c κs. search needs) returns returns-2)

@@ -6,18 +6,6 @@ use borrow.Author.Needs.{needs}
 use Rattle.host_answers.proofs.answer.of_speed.Statement.{statement}
 use Rattle.host_answers.proofs.answer.of_speed.Tie as tie
 
-enum-known-s : tie.Need-enum-known-s
-enum-known-s c = search needs
-
-of-value-requires : tie.Need-of-value-requires
-of-value-requires c κs = search needs
-
-enum-known-s-2 : tie.Need-enum-known-s-2
-enum-known-s-2 c = search needs
-
-of-refusal-requires : tie.Need-of-refusal-requires
-of-refusal-requires c κs = search needs
-
 returns : tie.Need-returns
 unfolding answerTo
 returns c =
@@ -31,4 +19,5 @@ returns-2 c = rw (c .before .before .s2 .given .1) (c .of-refusal .ensures)
 pub of-speed-spec : {M : Type 1} → statement M
 of-speed-spec =
     tie.close
-    (tie.spec enum-known-s of-value-requires enum-known-s-2 of-refusal-requires returns returns-2)
+    (tie.spec
+    (λ c. search needs) (λ c κs. search needs) (λ c. search needs) (λ c κs. search needs) returns returns-2)

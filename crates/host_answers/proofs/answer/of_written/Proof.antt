@@ -12,20 +12,8 @@ use Rattle.host_answers.proofs.answer.of_written.Tie as tie
 fits : (c : tie.After-known-told) → SFits w64 (pos (c .before .w .given .0 .0))
 fits c = let few = rw (c .before .w .given .1) at (c .before .before .before .pre) in record { sfits = omega arith }
 
-enum-known-w : tie.Need-enum-known-w
-enum-known-w c = search needs
-
 cast-of-value : tie.Need-cast-of-value
 cast-of-value c = fits c
-
-of-value-requires : tie.Need-of-value-requires
-of-value-requires c κs = search needs
-
-enum-known-w-2 : tie.Need-enum-known-w-2
-enum-known-w-2 c = search needs
-
-of-refusal-requires : tie.Need-of-refusal-requires
-of-refusal-requires c κs = search needs
 
 returns : tie.Need-returns
 unfolding answerWritten
@@ -39,10 +27,5 @@ pub of-written-spec : {M : Type 1} → statement M
 of-written-spec =
     tie.close
     (tie.spec
-    enum-known-w
-    cast-of-value
-    of-value-requires
-    enum-known-w-2
-    of-refusal-requires
-    returns
+    (λ c. search needs) cast-of-value (λ c κs. search needs) (λ c. search needs) (λ c κs. search needs) returns
     returns-2)

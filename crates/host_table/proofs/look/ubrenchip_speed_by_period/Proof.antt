@@ -4,14 +4,9 @@ use borrow.Author.Needs.{needs}
 use Rattle.host_table.proofs.look.ubrenchip_speed_by_period.Statement.{statement}
 use Rattle.host_table.proofs.look.ubrenchip_speed_by_period.Tie as tie
 
-speed-requires : tie.Need-speed-requires
-speed-requires c κs = search needs
-
-of-speed-requires : tie.Need-of-speed-requires
-of-speed-requires c κs = search needs
-
 returns : tie.Need-returns
 returns c = c .of-speed .ensures ∙ ap answerSpeed (c .before .speed .ensures)
 
 pub ubrenchip-speed-by-period-spec : {M : Type 1} → statement M
-ubrenchip-speed-by-period-spec = tie.close (tie.spec speed-requires of-speed-requires returns)
+ubrenchip-speed-by-period-spec =
+    tie.close (tie.spec (λ c κs. search needs) (λ c κs. search needs) returns)

@@ -29,9 +29,6 @@ below c = omega (arith, ltZ-true (c .before .args .n) (pos 0) (rw (back (c .befo
 above : (c : tie.Else1) → minus (c .before .args .n) ≤ plus (c .before .args .n)
 above c = omega (arith, ltZ-false (c .before .args .n) (pos 0) (rw (back (c .before .fits .n)) at (c .if1 .left)))
 
-cast-t : tie.Need-cast-t
-cast-t c = search needs
-
 sub-result : tie.Need-sub-result
 sub-result c = rw (read (c .before), minus-is (c .before)) (fits (c .before))
 
@@ -42,4 +39,5 @@ returns-2 : tie.Need-returns-2
 returns-2 c = read (c .before) ∙ away-up _ _ (above c)
 
 pub away-spec : {M : Type 1} → statement M
-away-spec = tie.close (tie.spec cast-t sub-result returns returns-2)
+away-spec =
+    tie.close (tie.spec (λ c. search needs) sub-result returns returns-2)

@@ -51,15 +51,6 @@ module _ (c : tie.Else1) where
   fits : SFits w64 (s .args .difference *ℤ pos f)
   fits = fits-size _ (omega (arith, small, abs-is (s .args .difference *ℤ pos f)))
 
-is-count-requires : tie.Need-is-count-requires
-is-count-requires c κs = search needs
-
-is-samples-requires : tie.Need-is-samples-requires
-is-samples-requires c κs = search needs
-
-is-rate-requires : tie.Need-is-rate-requires
-is-rate-requires c κs = search needs
-
 returns : tie.Need-returns
 unfolding speedByCount
 returns c = rw (sym (tested (c .before)) ∙ not-true _ (c .if1 .taken))
@@ -88,12 +79,5 @@ pub by-count-spec : {M : Type 1} → statement M
 by-count-spec =
     tie.close
     (tie.spec
-    is-count-requires
-    is-samples-requires
-    is-rate-requires
-    returns
-    mul-f
-    cast-f
-    mul-to-nearest
-    to-nearest-requires
-    returns-2)
+    (λ c κs. search needs) (λ c κs. search needs) (λ c κs. search needs) returns mul-f cast-f mul-to-nearest
+    to-nearest-requires returns-2)

@@ -24,14 +24,8 @@ module _ (s : tie.Start) where
 side : (c : tie.After-away) → toZ w64 (ofZ w64 (c .away .result)) ≡ awayFrom (c .before .args .n) (c .before .args .divisor)
 side c = back-ok (c .away .ok) ∙ (rw (read (c .before)) at (c .away .ensures))
 
-cast-t : tie.Need-cast-t
-cast-t c = search needs
-
 mul-result : tie.Need-mul-result
 mul-result c = rw (read c) (fits-twice (sized c))
-
-away-requires : tie.Need-away-requires
-away-requires c κs = search needs
 
 add-result : tie.Need-add-result
 add-result c = let s = c .before in rw (side c, read s, back (fits-twice (sized s))) (fits-dividend (sized s))
@@ -49,8 +43,11 @@ returns : tie.Need-returns
 returns c =
     let s = c .before in
     let k = sized s in
-    rw (side c, read s, read-t s, back (fits-twice k), back (fits-dividend k), back (fits-divisor k), back (fits-quotient k)) (quotient (s .args .n) (s .args .divisor))
+    rw (side c, read s, read-t s, back (fits-twice k), back (fits-dividend k), back (fits-divisor k), back (fits-quotient k))
+    (quotient (s .args .n) (s .args .divisor))
 
 pub to-nearest-spec : {M : Type 1} → statement M
 to-nearest-spec =
-    tie.close (tie.spec cast-t mul-result away-requires add-result mul-result-2 div-result returns)
+    tie.close
+    (tie.spec
+    (λ c. search needs) mul-result (λ c κs. search needs) add-result mul-result-2 div-result returns)

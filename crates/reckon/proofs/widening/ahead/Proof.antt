@@ -4,20 +4,9 @@ use borrow.Author.Needs.{needs}
 use Rattle.reckon.proofs.widening.ahead.Statement.{statement}
 use Rattle.reckon.proofs.widening.ahead.Tie as tie
 
-rem-result : tie.Need-rem-result
-rem-result c = search needs
-
 sub-result : tie.Need-sub-result
 sub-result c = omega (arith, mod-lt (c .args .word) {m = c .args .turn} (omega arith))
 
-add-result : tie.Need-add-result
-add-result c = search needs
-
-rem-result-2 : tie.Need-rem-result-2
-rem-result-2 c = search needs
-
-returns : tie.Need-returns
-returns c = search needs
-
 pub ahead-spec : {M : Type 1} → statement M
-ahead-spec = tie.close (tie.spec rem-result sub-result add-result rem-result-2 returns)
+ahead-spec =
+    tie.close (tie.spec (λ c. search needs) sub-result (λ c. search needs) (λ c. search needs) (λ c. search needs))

@@ -14,9 +14,6 @@ use Rattle.reckon.proofs.widening.or_range.Tie as tie
 held : (c : tie.Else1) → isWord (c .before .before .args .word) ≡ true
 held c = sym (c .before .is-word .ensures) ∙ not-false _ (c .if1 .left)
 
-is-word-requires : tie.Need-is-word-requires
-is-word-requires c κs = search needs
-
 returns : tie.Need-returns
 unfolding orRange
 returns c = rw (word-range (c .before .before .args .word), sym (c .before .is-word .ensures) ∙ not-true _ (c .if1 .taken))
@@ -30,4 +27,5 @@ returns-2 c = rw (word-range (c .before .before .before .args .word), held (c .b
     (ap Number (back-ok (c .at-word .ok) ∙ c .at-word .ensures))
 
 pub or-range-spec : {M : Type 1} → statement M
-or-range-spec = tie.close (tie.spec is-word-requires returns at-word-requires returns-2)
+or-range-spec =
+    tie.close (tie.spec (λ c κs. search needs) returns at-word-requires returns-2)

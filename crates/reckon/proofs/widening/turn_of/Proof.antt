@@ -5,11 +5,9 @@ use lib.Dec.{lit<}
 use Rattle.reckon.proofs.widening.turn_of.Statement.{statement}
 use Rattle.reckon.proofs.widening.turn_of.Tie as tie
 
-shl-result : tie.Need-shl-result
-shl-result c = search needs
-
 returns : tie.Need-returns
 returns c = rw one-mul (mod-eq-of-lt (lt-of-le-of-lt (pow-mono (c .pre)) (lit< tt)))
 
 pub turn-of-spec : {M : Type 1} → statement M
-turn-of-spec = tie.close (tie.spec shl-result returns)
+turn-of-spec =
+    tie.close (tie.spec (λ c. search needs) returns)

@@ -38,12 +38,6 @@ module _ (c : tie.Else2) where
 word : (c : tie.After-word-of) → c .word-of .result ≡ wordOf (c .before .before .before .before .before .before .args .position)
 word c = rw (back (c .before .before .before .before .before .before .fits .position)) at (c .word-of .ensures)
 
-is-width-requires : tie.Need-is-width-requires
-is-width-requires c κs = search needs
-
-in-range-requires : tie.Need-in-range-requires
-in-range-requires c κs = search needs
-
 returns : tie.Need-returns
 returns c = bad-place _ _ _ (sym (tested (c .before)) ∙ not-true _ (c .if1 .taken))
 
@@ -77,12 +71,5 @@ pub widen-spec : {M : Type 1} → statement M
 widen-spec =
     tie.close
     (tie.spec
-    is-width-requires
-    in-range-requires
-    returns
-    turn-of-requires
-    returns-2
-    word-of-requires
-    ahead-requires
-    nearest-requires
-    returns-3)
+    (λ c κs. search needs) (λ c κs. search needs) returns turn-of-requires returns-2 word-of-requires ahead-requires
+    nearest-requires returns-3)

@@ -5,36 +5,6 @@ use borrow.Author.Needs.{needs}
 use Rattle.row_calls.proofs.apply.apply.Statement.{statement}
 use Rattle.row_calls.proofs.apply.apply.Tie as tie
 
-enum-known-change : tie.Need-enum-known-change
-enum-known-change c = search needs
-
-setup-requires : tie.Need-setup-requires
-setup-requires c κs = search needs
-
-enum-told : tie.Need-enum-told
-enum-told c = search needs
-
-erase-requires : tie.Need-erase-requires
-erase-requires c κs = search needs
-
-enum-known-change-2 : tie.Need-enum-known-change-2
-enum-known-change-2 c = search needs
-
-preset-requires : tie.Need-preset-requires
-preset-requires c κs = search needs
-
-enum-told-2 : tie.Need-enum-told-2
-enum-told-2 c = search needs
-
-arm-requires : tie.Need-arm-requires
-arm-requires c κs = search needs
-
-enum-told-3 : tie.Need-enum-told-3
-enum-told-3 c = search needs
-
-acknowledge-requires : tie.Need-acknowledge-requires
-acknowledge-requires c κs = search needs
-
 returns : tie.Need-returns
 returns c = rw (c .before .before .change .given .1) (c .setup .ensures _)
 
@@ -56,18 +26,6 @@ pub apply-spec : {M : Type 1} → statement M
 apply-spec =
     tie.close
     (tie.spec
-    enum-known-change
-    setup-requires
-    enum-told
-    erase-requires
-    enum-known-change-2
-    preset-requires
-    enum-told-2
-    arm-requires
-    enum-told-3
-    acknowledge-requires
-    returns
-    returns-2
-    returns-3
-    returns-4
-    returns-5)
+    (λ c. search needs) (λ c κs. search needs) (λ c. search needs) (λ c κs. search needs) (λ c. search needs)
+    (λ c κs. search needs) (λ c. search needs) (λ c κs. search needs) (λ c. search needs) (λ c κs. search needs)
+    returns returns-2 returns-3 returns-4 returns-5)

@@ -10,21 +10,6 @@ use borrow.Author.Needs.{needs}
 use Rattle.row_calls.proofs.change.arm.Statement.{statement}
 use Rattle.row_calls.proofs.change.arm.Tie as tie
 
-open-requires : tie.Need-open-requires
-open-requires c κs = search needs
-
-enum-told : tie.Need-enum-told
-enum-told c = search needs
-
-enum-told-2 : tie.Need-enum-told-2
-enum-told-2 c = search needs
-
-enum-told-3 : tie.Need-enum-told-3
-enum-told-3 c = search needs
-
-enum-told-4 : tie.Need-enum-told-4
-enum-told-4 c = search needs
-
 pack-requires : tie.Need-pack-requires
 unfolding changed
 pack-requires c κs =
@@ -55,13 +40,5 @@ pub arm-spec : {M : Type 1} → statement M
 arm-spec =
     tie.close
     (tie.spec
-    open-requires
-    enum-told
-    enum-told-2
-    enum-told-3
-    enum-told-4
-    pack-requires
-    returns
-    returns-2
-    returns-3
-    returns-4)
+    (λ c κs. search needs) (λ c. search needs) (λ c. search needs) (λ c. search needs) (λ c. search needs)
+    pack-requires returns returns-2 returns-3 returns-4)

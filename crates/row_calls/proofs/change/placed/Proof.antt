@@ -17,9 +17,6 @@ use Rattle.row_calls.proofs.change.placed.Tie as tie
 ok : (c : tie.Else1) → inRange (c .before .before .args .position) ≡ true
 ok c = sym (rw (back (c .before .before .fits .position)) at (c .before .in-range .ensures)) ∙ not-false _ (c .if1 .left)
 
-in-range-requires : tie.Need-in-range-requires
-in-range-requires c κs = search needs
-
 returns : tie.Need-returns
 returns c = rw (sym (rw (back (c .before .before .fits .position)) at (c .before .in-range .ensures)) ∙ not-true _ (c .if1 .taken))
 
@@ -43,5 +40,4 @@ returns-2 c =
 
 pub placed-spec : {M : Type 1} → statement M
 placed-spec =
-    tie.close
-    (tie.spec in-range-requires returns word-of-requires pack-requires returns-2)
+    tie.close (tie.spec (λ c κs. search needs) returns word-of-requires pack-requires returns-2)

@@ -6,23 +6,8 @@ use borrow.Author.Needs.{needs}
 use Rattle.row_calls.proofs.change.preset.Statement.{statement}
 use Rattle.row_calls.proofs.change.preset.Tie as tie
 
-open-requires : tie.Need-open-requires
-open-requires c κs = search needs
-
-enum-told : tie.Need-enum-told
-enum-told c = search needs
-
-enum-told-2 : tie.Need-enum-told-2
-enum-told-2 c = search needs
-
-enum-told-3 : tie.Need-enum-told-3
-enum-told-3 c = search needs
-
 placed-requires : tie.Need-placed-requires
 placed-requires c κs = let o = c .before .before .before in opened-narrow (o .before .args .r) _ (o .open .ensures .1)
-
-enum-told-4 : tie.Need-enum-told-4
-enum-told-4 c = search needs
 
 placed-requires-2 : tie.Need-placed-requires-2
 placed-requires-2 c κs = let o = c .before .before .before in opened-narrow (o .before .args .r) _ (o .open .ensures .1)
@@ -53,14 +38,5 @@ pub preset-spec : {M : Type 1} → statement M
 preset-spec =
     tie.close
     (tie.spec
-    open-requires
-    enum-told
-    enum-told-2
-    enum-told-3
-    placed-requires
-    enum-told-4
-    placed-requires-2
-    returns
-    returns-2
-    returns-3
-    returns-4)
+    (λ c κs. search needs) (λ c. search needs) (λ c. search needs) (λ c. search needs) placed-requires
+    (λ c. search needs) placed-requires-2 returns returns-2 returns-3 returns-4)

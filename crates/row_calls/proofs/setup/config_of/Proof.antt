@@ -15,8 +15,6 @@ cast-t7 c = record { fits = limits (c .args .kind) (c .args .depth) (c .args .wi
 cast-t8 : tie.Need-cast-t8
 cast-t8 c = record { fits = limits (c .args .kind) (c .args .depth) (c .args .width) (c .args .turn) (c .pre) .turn }
 
-returns : tie.Need-returns
-returns c = search needs
-
 pub config-of-spec : {M : Type 1} → statement M
-config-of-spec = tie.close (tie.spec cast-t5 cast-t6 cast-t7 cast-t8 returns)
+config-of-spec =
+    tie.close (tie.spec cast-t5 cast-t6 cast-t7 cast-t8 (λ c. search needs))

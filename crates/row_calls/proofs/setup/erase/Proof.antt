@@ -9,9 +9,6 @@ use borrow.Author.Needs.{needs}
 use Rattle.row_calls.proofs.setup.erase.Statement.{statement}
 use Rattle.row_calls.proofs.setup.erase.Tie as tie
 
-erased-requires : tie.Need-erased-requires
-erased-requires c κs = search needs
-
 pack-requires : tie.Need-pack-requires
 pack-requires c κs =
     subst Narrow (sym (c .erased .ensures)) (waiting-held (record { kind = lit< tt; depth = lit< tt; width = lit< tt }) 0 false .narrow)
@@ -21,4 +18,5 @@ unfolding eraseRow
 returns c = λ r. ap To (c .pack .ensures ∙ ap rowOf (c .before .erased .ensures))
 
 pub erase-spec : {M : Type 1} → statement M
-erase-spec = tie.close (tie.spec erased-requires pack-requires returns)
+erase-spec =
+    tie.close (tie.spec (λ c κs. search needs) pack-requires returns)

@@ -14,7 +14,8 @@ use Rattle.row_calls.proofs.setup.setup.Tie as tie
 
 module _ (c : tie.Else1) where
   -- the numbers that were tested
-  good : goodConfig (c .before .before .args .kind) (c .before .before .args .depth) (c .before .before .args .width) (c .before .before .args .turn) ≡ true
+  good : goodConfig (c .before .before .args .kind) (c .before .before .args .depth) (c .before .before .args .width)
+      (c .before .before .args .turn) ≡ true
   good = sym (c .before .is-good .ensures) ∙ not-false _ (c .if1 .left)
 
   abbrev config : Config
@@ -24,18 +25,12 @@ module _ (c : tie.Else1) where
 made : (c : tie.After-setup) → c .setup .result ≡ fresh (config (c .before .before))
 made c = c .setup .ensures ∙ ap fresh (c .before .config-of .ensures)
 
-is-good-requires : tie.Need-is-good-requires
-is-good-requires c κs = search needs
-
 returns : tie.Need-returns
 unfolding setupRow
 returns c = λ r. rw (sym (c .before .is-good .ensures) ∙ not-true _ (c .if1 .taken))
 
 config-of-requires : tie.Need-config-of-requires
 config-of-requires c κs = good c
-
-setup-requires : tie.Need-setup-requires
-setup-requires c κs = search needs
 
 pack-requires : tie.Need-pack-requires
 pack-requires c κs = subst Narrow (sym (made c)) (setup-held (config (c .before .before)) (2 ^ 62) (good (c .before .before)) .narrow)
@@ -47,4 +42,5 @@ returns-2 c = λ r. rw (good (c .before .before .before)) (ap To (c .pack .ensur
 pub setup-spec : {M : Type 1} → statement M
 setup-spec =
     tie.close
-    (tie.spec is-good-requires returns config-of-requires setup-requires pack-requires returns-2)
+    (tie.spec
+    (λ c κs. search needs) returns config-of-requires (λ c κs. search needs) pack-requires returns-2)

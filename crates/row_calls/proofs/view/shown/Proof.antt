@@ -5,13 +5,11 @@ use borrow.Author.Needs.{needs}
 use Rattle.row_calls.proofs.view.shown.Statement.{statement}
 use Rattle.row_calls.proofs.view.shown.Tie as tie
 
-at-word-requires : tie.Need-at-word-requires
-at-word-requires c κs = search needs
-
 returns : tie.Need-returns
 returns c =
     let f : SFits w64 (c .at-word .result) = search needs in
     rw (back f, c .at-word .ensures)
 
 pub shown-spec : {M : Type 1} → statement M
-shown-spec = tie.close (tie.spec at-word-requires returns)
+shown-spec =
+    tie.close (tie.spec (λ c κs. search needs) returns)

@@ -9,26 +9,11 @@ use borrow.Author.Needs.{needs}
 use Rattle.row_calls.proofs.view.view.Statement.{statement}
 use Rattle.row_calls.proofs.view.view.Tie as tie
 
-open-requires : tie.Need-open-requires
-open-requires c κs = search needs
-
-enum-told : tie.Need-enum-told
-enum-told c = search needs
-
-enum-told-2 : tie.Need-enum-told-2
-enum-told-2 c = search needs
-
-enum-told-3 : tie.Need-enum-told-3
-enum-told-3 c = search needs
-
 shown-requires : tie.Need-shown-requires
 shown-requires c κs =
     let o = c .before .before .before in
     let g = opened-sampled (o .before .args .r) (o .open .result) (o .open .ensures) (c .enum-told3 .given .1) in
     rw (g .1) (live-position (o .before .args .r) (inl (g .0)))
-
-enum-told-4 : tie.Need-enum-told-4
-enum-told-4 c = search needs
 
 shown-requires-2 : tie.Need-shown-requires-2
 shown-requires-2 c κs =
@@ -60,14 +45,5 @@ pub view-spec : {M : Type 1} → statement M
 view-spec =
     tie.close
     (tie.spec
-    open-requires
-    enum-told
-    enum-told-2
-    enum-told-3
-    shown-requires
-    enum-told-4
-    shown-requires-2
-    returns
-    returns-2
-    returns-3
-    returns-4)
+    (λ c κs. search needs) (λ c. search needs) (λ c. search needs) (λ c. search needs) shown-requires
+    (λ c. search needs) shown-requires-2 returns returns-2 returns-3 returns-4)

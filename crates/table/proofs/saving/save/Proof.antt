@@ -4,23 +4,8 @@ use borrow.Author.Needs.{needs}
 use Rattle.table.proofs.saving.save.Statement.{statement}
 use Rattle.table.proofs.saving.save.Tie as tie
 
-locate-requires : tie.Need-locate-requires
-locate-requires c κs = search needs
-
-enum-known-e : tie.Need-enum-known-e
-enum-known-e c = search needs
-
-enum-known-row : tie.Need-enum-known-row
-enum-known-row c = search needs
-
-save-requires : tie.Need-save-requires
-save-requires c κs = search needs
-
 returns : tie.Need-returns
 returns c = not-saved _ _ _ _ (sym (c .before .before .before .locate .ensures) ∙ c .before .e .given .1)
-
-same-length : tie.Need-same-length
-same-length c = search needs
 
 returns-2 : tie.Need-returns-2
 returns-2 c =
@@ -33,10 +18,5 @@ pub save-spec : {M : Type 1} → statement M
 save-spec =
     tie.close
     (tie.spec
-    locate-requires
-    enum-known-e
-    enum-known-row
-    save-requires
-    returns
-    same-length
+    (λ c κs. search needs) (λ c. search needs) (λ c. search needs) (λ c κs. search needs) returns (λ c. search needs)
     returns-2)

@@ -7,18 +7,6 @@ use borrow.Author.Needs.{needs}
 use Rattle.trace_axis.proofs.trace.Trace.report.Statement.{statement}
 use Rattle.trace_axis.proofs.trace.Trace.report.Tie as tie
 
-slice-aggregate-view : tie.Need-slice-aggregate-view
-slice-aggregate-view c = search needs
-
-view-requires : tie.Need-view-requires
-view-requires c κs = search needs
-
-enum-known-v : tie.Need-enum-known-v
-enum-known-v c = search needs
-
-enum-told : tie.Need-enum-told
-enum-told c = search needs
-
 returns : tie.Need-returns
 unfolding reportOf
 returns c =
@@ -33,4 +21,5 @@ returns-2 c = rw (sym (c .before .before .view .ensures) ∙ c .enum-told .given
 pub report-spec : {M : Type 1} → statement M
 report-spec =
     tie.close
-    (tie.spec slice-aggregate-view view-requires enum-known-v enum-told returns returns-2)
+    (tie.spec
+    (λ c. search needs) (λ c κs. search needs) (λ c. search needs) (λ c. search needs) returns returns-2)

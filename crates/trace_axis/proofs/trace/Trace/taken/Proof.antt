@@ -9,19 +9,11 @@ use Rattle.trace_axis.proofs.trace.Trace.taken.Tie as tie
 returns : tie.Need-returns
 returns c = let a = c .before .before .args in sym (past-limit (a .self) (a .byte ∷ []) (omega arith))
 
-slice-aggregate-sample : tie.Need-slice-aggregate-sample
-slice-aggregate-sample c = search needs
-
-sample-requires : tie.Need-sample-requires
-sample-requires c κs = search needs
-
-add-t8 : tie.Need-add-t8
-add-t8 c = search needs
-
 returns-2 : tie.Need-returns-2
 returns-2 c =
     let a = c .before .before .before .before .before .before .before .args in
     fed-sample (a .self) (a .byte) _ (omega arith) (c .before .before .sample .ensures .table)
 
 pub taken-spec : {M : Type 1} → statement M
-taken-spec = tie.close (tie.spec returns slice-aggregate-sample sample-requires add-t8 returns-2)
+taken-spec =
+    tie.close (tie.spec returns (λ c. search needs) (λ c κs. search needs) (λ c. search needs) returns-2)
