@@ -16,7 +16,7 @@ use Rattle.axis.specs.declared.row.Flags.{Flags}
 use Rattle.axis.specs.declared.row.Pace.{Pace}
 use Rattle.axis.specs.declared.row.Row.{Row}
 use Rattle.axis.specs.Row.{layout, fieldsOf, axisOf, rowOf, word1Of, word2Of}
-use Rattle.axis.specs.Row.{waiting, Slim, Narrow, Held, Words, SameConfig, SameFlags, SamePace, Agree}
+use Rattle.axis.specs.Row.{waiting, Slim, Narrow, Held, Words, SameConfig, SameFlags, SamePace, SameAxis}
 
 -- A number below 2 that is read as a flag is that bit again.
 bit-flag-at : (x : ℕ) → x < 2 → bitOf (eqb x 1) ≡ x
@@ -56,7 +56,7 @@ same-flags h = λ i. record { primed = h .primed i; armed = h .armed i; homed = 
 pub same-pace : {p q : Pace} → SamePace p q → p ≡ q
 same-pace h = λ i. record { direction = h .direction i; age = h .age i; period = h .period i }
 
-pub agree : {r s : Axis} → Agree r s → r ≡ s
+pub agree : {r s : Axis} → SameAxis r s → r ≡ s
 agree h = λ i. record {
   word = h .word i;
   config = same-config (h .config) i;

@@ -149,7 +149,7 @@ pub record SamePace (p q : Pace) : Type 0 where
   pub period : p .period ≡ q .period
 
 -- Two axes that agree part by part.
-pub record Agree (r s : Axis) : Type 0 where
+pub record SameAxis (r s : Axis) : Type 0 where
   pub word : r .word ≡ s .word
   pub config : SameConfig (r .config) (s .config)
   pub flags : SameFlags (r .flags) (s .flags)

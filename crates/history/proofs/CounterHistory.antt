@@ -24,7 +24,7 @@ use Rattle.record.proofs.RecordLaws.{accepted-within}
 use Rattle.row_calls.specs.Change.{changed}
 use Rattle.row_calls.specs.Calls.{leftBy, armRow, acknowledgeRow}
 use Rattle.row_counter.specs.Reading.{readRow}
-use Rattle.row_counter.specs.Counter.{newest, shown, rowRead, Gentle, moved}
+use Rattle.row_counter.specs.Counter.{newest, lowBits, rowRead, UnderHalf, polled}
 use Rattle.row_counter.proofs.CounterLaws.{counter-follows, counter-position}
 use Rattle.row_calls.specs.declared.apply.Change.the-variants.{Setup, Preset, Arm, Acknowledge}
 use Rattle.runs.specs.Op.{Look, changes, restore, reading, looks, ruleOf, rowAfter}
@@ -96,16 +96,16 @@ module _ (r : Row) (counter : statusOf r ≡ Counter) where
   abbrev start : ℤ
   start = positionOf (axisOf r .word)
 
-  only-readings : {h : List Event} {ps : List ℤ} → CounterReads width h ps → Gentle width start ps → rowSince r h ≡ rowRead width r ps
+  only-readings : {h : List Event} {ps : List ℤ} → CounterReads width h ps → UnderHalf width start ps → rowSince r h ≡ rowRead width r ps
   unfolding rowSince rowRead rowNext rowAfter ruleOf
   only-readings none g = refl
-  only-readings (read p d) (moved q ps ok near g) = ap (λ (s : Row). leftBy s (readRow (shown width p) s)) (only-readings d g)
+  only-readings (read p d) (polled q ps ok near g) = ap (λ (s : Row). leftBy s (readRow (lowBits width p) s)) (only-readings d g)
   only-readings (between e q d) g =
       let same = only-readings d g in
       q _ (ap statusOf same ∙ counter-follows r counter g .status) ∙ same
 
   -- HEADLINE: a counter on a shaft that moves less than half a turn between readings is where the shaft is, whatever else happens to its
   -- row between.
-  pub counter-shaft : {h : List Event} {ps : List ℤ} → CounterReads width h ps → Gentle width start ps →
+  pub counter-shaft : {h : List Event} {ps : List ℤ} → CounterReads width h ps → UnderHalf width start ps →
       positionOf (rowSince r h .w0) ≡ newest start ps
   counter-shaft d g = ap (λ (s : Row). positionOf (s .w0)) (only-readings d g) ∙ counter-position r counter g

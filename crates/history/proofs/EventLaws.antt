@@ -35,7 +35,7 @@ use Rattle.row_saving.specs.Saving.{restoredBy, restoreRow}
 use Rattle.row_calls.specs.declared.answer.Changed.the-variants.{To, Kept}
 use Rattle.history.specs.Acts.{Act, act, sampled, Accepted as Agreed}
 use Rattle.history.specs.Acts.{preset as placed, arm as armed, acknowledge as acknowledged}
-use Rattle.history.specs.Told.{told}
+use Rattle.history.specs.Told.{toldAxis}
 use Rattle.row_calls.specs.declared.apply.Change.{Change}
 use Rattle.row_calls.specs.declared.apply.Change.the-variants.{Setup, Erase, Preset, Arm, Acknowledge}
 use Rattle.runs.specs.Op.{Op, changes, restore, reading, looks, ruleOf, rowAfter}
@@ -85,7 +85,7 @@ module _ {r : Row} (words : Words r) where
     status-now : statusOf now ≡ statusOf (p .start)
     status-now = ap statusOf (t .row) ∙ told-holds (t .lawful) words .status
 
-    sampled-now : statusOf (p .start) ≡ Sampled → axisOf now ≡ told (axisOf (p .start)) (p .acts)
+    sampled-now : statusOf (p .start) ≡ Sampled → axisOf now ≡ toldAxis (axisOf (p .start)) (p .acts)
     sampled-now e = ap axisOf (t .row) ∙ axis-sampled (t .lawful) e
 
     counter-now : statusOf (p .start) ≡ Counter → axisOf now ≡ readAxis (p .place) (axisOf (p .start))

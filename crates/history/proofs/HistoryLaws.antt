@@ -21,23 +21,23 @@ use Rattle.history.specs.Homing.{armedAt, homedAt}
 use Rattle.history.specs.Tally.{sum, walk, heldIn, placeTally, positionAt, doublesTally}
 use Rattle.history.specs.Pace.{directionOf, ageOf, periodOf}
 use Rattle.history.specs.Index.{indexAt}
-use Rattle.history.specs.Told.{told, answered}
+use Rattle.history.specs.Told.{toldAxis, answered}
 use Rattle.history.proofs.LevelsLaws.{line-told}
 use Rattle.history.proofs.TallyLaws.{walked-sum}
 use Rattle.history.proofs.ToldLaws.{position-in, whole-history, sample-history}
 
 module _ (x : Axis) (start : Start x) (h : List Act) (legal : Legal h) where
-  whole : after x h ≡ told x h
+  whole : after x h ≡ toldAxis x h
   whole = whole-history x start h legal
 
   -- HEADLINE: kind, depth, width and counts per turn never change.
   pub configuration-history : after x h .config ≡ x .config
-  unfolding told
+  unfolding toldAxis
   configuration-history = ap (λ (y : Axis). y .config) whole
 
   -- HEADLINE: PRIMED.
   pub primed-history : after x h .flags .primed ≡ primedAt x h
-  unfolding told
+  unfolding toldAxis
   primed-history = ap (λ (y : Axis). y .flags .primed) whole
 
   -- HEADLINE: each filtered level is that of the latest consecutive equal raw samples.
@@ -50,13 +50,13 @@ module _ (x : Axis) (start : Start x) (h : List Act) (legal : Legal h) where
 
   -- HEADLINE: the position is the last value given and the entries since, but those that were held at the end of the range.
   pub position-walk : positionOf (after x h .word) ≡ walk (placeTally x h .value .position) (placeTally x h .moves)
-  unfolding told
+  unfolding toldAxis
   position-walk = ap (λ (y : Axis). positionOf (y .word)) whole ∙ position-word (positionAt x h) (position-in x start h legal)
 
   -- HEADLINE: RANGE is set where an entry was held, or as it was given.
   pub range-history :
       after x h .flags .range ≡ (placeTally x h .value .range || heldIn (placeTally x h .value .position) (placeTally x h .moves))
-  unfolding told
+  unfolding toldAxis
   range-history = ap (λ (y : Axis). y .flags .range) whole
 
   -- HEADLINE: while RANGE is clear, the position is the last value given plus the sum of the entries since.
@@ -66,33 +66,33 @@ module _ (x : Axis) (start : Start x) (h : List Act) (legal : Legal h) where
 
   -- HEADLINE: doubles is the smaller of 65,535 and the E entries since the last acknowledge.
   pub doubles-history : after x h .doubles ≡ min 65535 (doublesTally x h .value + numberOfE (doublesTally x h .moves))
-  unfolding told
+  unfolding toldAxis
   doubles-history = ap (λ (y : Axis). y .doubles) whole
 
   -- HEADLINE: direction, age and period are those of the entries.
   pub direction-history : after x h .pace .direction ≡ directionOf (x .pace) (entries x h)
-  unfolding told
+  unfolding toldAxis
   direction-history = ap (λ (y : Axis). y .pace .direction) whole
 
   pub age-history : after x h .pace .age ≡ ageOf (x .pace) (entries x h)
-  unfolding told
+  unfolding toldAxis
   age-history = ap (λ (y : Axis). y .pace .age) whole
 
   pub period-history : after x h .pace .period ≡ periodOf (x .pace) (entries x h)
-  unfolding told
+  unfolding toldAxis
   period-history = ap (λ (y : Axis). y .pace .period) whole
 
   -- HEADLINE: ARMED, HOMED and INDEX.
   pub armed-history : after x h .flags .armed ≡ armedAt x h
-  unfolding told
+  unfolding toldAxis
   armed-history = ap (λ (y : Axis). y .flags .armed) whole
 
   pub homed-history : after x h .flags .homed ≡ homedAt x h
-  unfolding told
+  unfolding toldAxis
   homed-history = ap (λ (y : Axis). y .flags .homed) whole
 
   pub index-history : after x h .flags .index ≡ indexAt x h
-  unfolding told
+  unfolding toldAxis
   index-history = ap (λ (y : Axis). y .flags .index) whole
 
   -- HEADLINE: a sample's double bit is set exactly where its entry is E, also where doubles no longer grows.

@@ -13,7 +13,7 @@ use Rattle.history.specs.Acts.{Act, sampled}
 use Rattle.history.specs.Start.{Start}
 use Rattle.history.specs.Latest.{streak, latest}
 use Rattle.history.specs.Levels.{primedAt, since, levelAt, runAt}
-use Rattle.history.specs.Told.{told}
+use Rattle.history.specs.Told.{toldAxis}
 use Rattle.history.proofs.LatestLaws.{streak-same, latest-full}
 use Rattle.history.proofs.FilterLaws.{lineOf, line-short, line-start, filter-latest}
 
@@ -26,8 +26,8 @@ unfolding levelAt runAt
 line-is x w h = refl
 
 -- The lines of the axis that a history tells.
-pub line-told : (x : Axis) (w : Wire) (h : List Act) → line (told x h) w ≡ lineAt x w h
-unfolding line placeOf told
+pub line-told : (x : Axis) (w : Wire) (h : List Act) → line (toldAxis x h) w ≡ lineAt x w h
+unfolding line placeOf toldAxis
 line-told x A h = refl
 line-told x B h = refl
 line-told x Z h = refl
@@ -71,8 +71,8 @@ module _ (x : Axis) (start : Start x) where
   line-first w = line-is x w [] ∙ line-start (x .config .depth) (line x w .level) (line x w .run) (start .short w)
 
   -- HEADLINE: the filter on the axis that a history tells gives the lines that the history with that sample tells.
-  pub filtered-told : (w : Wire) (s : Raw) (h : List Act) → primedAt x h ≡ true → filtered (told x h) s w ≡ lineAt x w (sampled s ∷ h)
-  unfolding filtered told since
+  pub filtered-told : (w : Wire) (s : Raw) (h : List Act) → primedAt x h ≡ true → filtered (toldAxis x h) s w ≡ lineAt x w (sampled s ∷ h)
+  unfolding filtered toldAxis since
   filtered-told w s h q =
       rw (line-told x w h, line-is x w h, line-is x w (sampled s ∷ h), q)
       (filter-latest (x .config .depth) (since x w h .level) deep (since x w h .raws) (levelOf s w))

@@ -15,7 +15,7 @@ use Rattle.row_counter.specs.Reading.{readAxis}
 use Rattle.row_calls.proofs.ChangeLaws.{sampled-holds, counter-holds}
 use Rattle.row_counter.proofs.ReadingLaws.{read-at, read-kept}
 use Rattle.row_calls.proofs.SetupLaws.{config-holds, erase-makes}
-use Rattle.history.specs.Told.{told}
+use Rattle.history.specs.Told.{toldAxis}
 use Rattle.history.specs.Phase.{Phase, toldBy, toldRow}
 use Rattle.history.specs.Lawful.{Beginning, given, erased, made, Lawful}
 use Rattle.history.proofs.SampledLaws.{keep-told}
@@ -35,8 +35,8 @@ module _ {r : Row} {p : Phase} (l : Lawful r p) where
   abbrev x : Axis
   x = axisOf (p .start)
 
-  sampled-row : statusOf (p .start) ≡ Sampled → Holds (rowOf (told x (p .acts))) Sampled (told x (p .acts))
-  sampled-row e = sampled-holds (told x (p .acts)) (keep-told x (sampled-gives (p .start) e) (p .acts) (l .legal))
+  sampled-row : statusOf (p .start) ≡ Sampled → Holds (rowOf (toldAxis x (p .acts))) Sampled (toldAxis x (p .acts))
+  sampled-row e = sampled-holds (toldAxis x (p .acts)) (keep-told x (sampled-gives (p .start) e) (p .acts) (l .legal))
 
   counter-row : statusOf (p .start) ≡ Counter → Holds (rowOf (readAxis (p .place) x)) Counter (readAxis (p .place) x)
   counter-row e = counter-holds (readAxis (p .place) x) (read-kept x (p .place) (l .placed e) (counter-gives (p .start) e))
@@ -53,7 +53,7 @@ module _ {r : Row} {p : Phase} (l : Lawful r p) where
       go Broken e = record { status = e; axis = refl; words = start-words words (l .began) }
 
   -- Its axis is the one that the acts tell.
-  pub axis-sampled : statusOf (p .start) ≡ Sampled → axisOf (toldRow p) ≡ told (axisOf (p .start)) (p .acts)
+  pub axis-sampled : statusOf (p .start) ≡ Sampled → axisOf (toldRow p) ≡ toldAxis (axisOf (p .start)) (p .acts)
   unfolding toldRow toldBy
   axis-sampled e = rw e (sampled-row e .axis)
 
@@ -64,7 +64,7 @@ module _ {r : Row} {p : Phase} (l : Lawful r p) where
 
   -- Its configuration is that of the row that the phase began with.
   pub told-configured : axisOf (toldRow p) .config ≡ axisOf (p .start) .config
-  unfolding toldRow toldBy told changed
+  unfolding toldRow toldBy toldAxis changed
   told-configured = go (statusOf (p .start)) refl
     where
       go : (s : Status) → statusOf (p .start) ≡ s → axisOf (toldBy s p) .config ≡ axisOf (p .start) .config

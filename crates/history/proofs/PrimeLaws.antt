@@ -14,7 +14,7 @@ use Rattle.history.specs.Homing.{armedAt, homesAt, homedAt}
 use Rattle.history.specs.Tally.{walked, ranged, placeTally, doubled, doublesTally}
 use Rattle.history.specs.Pace.{paceOf}
 use Rattle.history.specs.Index.{indexAt}
-use Rattle.history.specs.Told.{told, answered}
+use Rattle.history.specs.Told.{toldAxis, answered}
 use Rattle.history.proofs.LevelsLaws.{level-prime, run-prime}
 use Rattle.history.proofs.EntriesLaws.{entry-none, double-none}
 
@@ -51,16 +51,16 @@ module _ (x : Axis) (s : Raw) (h : List Act) (q : primedAt x h ≡ false) where
   unfolding entries
   entries-stay = rw (entry-none x s h q)
 
-  levels-taken : s .a ∷ s .b ∷ s .z ∷ [] ≡ told x (sampled s ∷ h) .levels
-  unfolding told levelOf
+  levels-taken : s .a ∷ s .b ∷ s .z ∷ [] ≡ toldAxis x (sampled s ∷ h) .levels
+  unfolding toldAxis levelOf
   levels-taken = rw (level-prime x A s h q, level-prime x B s h q, level-prime x Z s h q)
 
-  runs-none : 0 ∷ 0 ∷ 0 ∷ [] ≡ told x (sampled s ∷ h) .runs
-  unfolding told
+  runs-none : 0 ∷ 0 ∷ 0 ∷ [] ≡ toldAxis x (sampled s ∷ h) .runs
+  unfolding toldAxis
   runs-none = rw (run-prime x A s h q, run-prime x B s h q, run-prime x Z s h q)
 
-  told-primes : primedBy (told x h) s ≡ told x (sampled s ∷ h)
-  unfolding primedBy told primedAt
+  told-primes : primedBy (toldAxis x h) s ≡ toldAxis x (sampled s ∷ h)
+  unfolding primedBy toldAxis primedAt
   told-primes = λ i. record {
     word = wordOf (walked (place-stays i));
     config = x .config;
@@ -72,6 +72,6 @@ module _ (x : Axis) (s : Raw) (h : List Act) (q : primedAt x h ≡ false) where
   }
 
   -- HEADLINE: a sample that primes sets PRIMED and the lines, changes nothing else, and sets no bit of the answer.
-  pub primes : outcome false (told x h) s ≡ answered x s h
+  pub primes : outcome false (toldAxis x h) s ≡ answered x s h
   unfolding outcome answered
   primes = λ i. record { axis = told-primes i; double = sym (double-none x s h (entry-none x s h q)) i; index = sym no-rise i }

@@ -16,7 +16,7 @@ use Rattle.row_counter.specs.Reading.{readAxis}
 use Rattle.runs.specs.Told.{Marks, marks, marksOf}
 use Rattle.runs.specs.Op.{answerOf}
 use Rattle.runs.specs.Event.{Event, bits, asked, rowNext, rowSince, toldOf}
-use Rattle.history.specs.Told.{told, answered}
+use Rattle.history.specs.Told.{toldAxis, answered}
 use Rattle.history.specs.Phase.{phaseOf, toldRow, markedBy, toldMarks, toldAt}
 use Rattle.history.specs.Lawful.{Lawful}
 use Rattle.history.proofs.ToldLaws.{sample-told}
@@ -54,7 +54,7 @@ module _ {r : Row} (words : Words r) (h : List Event) where
 
   -- The axis of a sampled row is the one that the acts of the phase tell.
   pub sampled-history : statusOf (phaseOf r h .start) ≡ Sampled →
-      axisOf (rowSince r h) ≡ told (axisOf (phaseOf r h .start)) (phaseOf r h .acts)
+      axisOf (rowSince r h) ≡ toldAxis (axisOf (phaseOf r h .start)) (phaseOf r h .acts)
   sampled-history e = ap axisOf row-history ∙ axis-sampled phase-lawful e
 
   -- The axis of a counter is the one that the phase began with, at the phase's place.

@@ -6,7 +6,7 @@ use Rattle.axis.specs.declared.row.Axis.{Axis}
 use Rattle.axis_sample.proofs.KeepLaws.{keep-step}
 use Rattle.row_calls.proofs.ChangeLaws.{preset-sampled, arm-sampled, acknowledge-sampled}
 use Rattle.history.specs.Acts.{Act, sampled, preset, arm, acknowledge, act, after, Accepted, Legal}
-use Rattle.history.specs.Told.{told}
+use Rattle.history.specs.Told.{toldAxis}
 use Rattle.history.proofs.ToldLaws.{whole-history}
 use Rattle.history.proofs.StartLaws.{start-sampled}
 
@@ -27,5 +27,5 @@ module _ (x : Axis) (s : SampledAxis x) where
   keep-after (a ∷ h) l = keep-act (after x h) (keep-after h (l .1)) a (l .0)
 
   -- So is the axis that the history tells.
-  pub keep-told : (h : List Act) → Legal h → SampledAxis (told x h)
+  pub keep-told : (h : List Act) → Legal h → SampledAxis (toldAxis x h)
   keep-told h l = subst SampledAxis (whole-history x (start-sampled s) h l) (keep-after h l)

@@ -19,7 +19,7 @@ use Rattle.history.specs.Entries.{codeAt, entryAt, entries}
 use Rattle.history.specs.Homing.{armedAt, homesAt, homedAt}
 use Rattle.history.specs.Tally.{onward, walked, placeTally, positionAt, doublesTally}
 use Rattle.history.specs.Index.{countedAt, indexAt}
-use Rattle.history.specs.Told.{told, answered}
+use Rattle.history.specs.Told.{toldAxis, answered}
 use Rattle.history.proofs.LevelsLaws.{lineAt, filtered-told}
 use Rattle.history.proofs.EntriesLaws.{entry-primed, double-entry}
 use Rattle.history.proofs.TallyLaws.{counted-next, word-next, range-next, doubles-next}
@@ -38,32 +38,32 @@ module _
   move : Move
   move = entry (x .config .kind) (codeAt x h) (codeAt x (sampled s ∷ h))
 
-  move-is : moveTo (told x h) lines ≡ move
-  unfolding moveTo line placeOf told codeAt lines move
+  move-is : moveTo (toldAxis x h) lines ≡ move
+  unfolding moveTo line placeOf toldAxis codeAt lines move
   move-is = refl
 
-  rise-is : rises (told x h) lines ≡ roseAt x s h
-  unfolding rises line placeOf told lines roseAt
+  rise-is : rises (toldAxis x h) lines ≡ roseAt x s h
+  unfolding rises line placeOf toldAxis lines roseAt
   rise-is = rw q
 
   entry-is : entryAt x s h ≡ move ∷ []
   unfolding move
   entry-is = entry-primed x s h q
 
-  word-is : settle (told x h) lines .word ≡ told x (sampled s ∷ h) .word
-  unfolding settle told placeTally homesAt
+  word-is : settle (toldAxis x h) lines .word ≡ toldAxis x (sampled s ∷ h) .word
+  unfolding settle toldAxis placeTally homesAt
   word-is = rw (move-is, rise-is, entry-is) (word-next (placeTally x h) value move (armedAt x h && roseAt x s h))
 
-  armed-is : settle (told x h) lines .flags .armed ≡ told x (sampled s ∷ h) .flags .armed
-  unfolding settle told armedAt
+  armed-is : settle (toldAxis x h) lines .flags .armed ≡ toldAxis x (sampled s ∷ h) .flags .armed
+  unfolding settle toldAxis armedAt
   armed-is = rw rise-is
 
-  homed-is : settle (told x h) lines .flags .homed ≡ told x (sampled s ∷ h) .flags .homed
-  unfolding settle told homedAt homesAt
+  homed-is : settle (toldAxis x h) lines .flags .homed ≡ toldAxis x (sampled s ∷ h) .flags .homed
+  unfolding settle toldAxis homedAt homesAt
   homed-is = rw rise-is
 
-  range-is : settle (told x h) lines .flags .range ≡ told x (sampled s ∷ h) .flags .range
-  unfolding settle told placeTally homesAt
+  range-is : settle (toldAxis x h) lines .flags .range ≡ toldAxis x (sampled s ∷ h) .flags .range
+  unfolding settle toldAxis placeTally homesAt
   range-is = rw (move-is, rise-is, entry-is) (range-next (placeTally x h) value move (armedAt x h && roseAt x s h))
 
   counted-is : positionOf (countedWord move (wordOf (positionAt x h))) ≡ countedAt x s h
@@ -71,20 +71,20 @@ module _
   counted-is =
       counted-next (placeTally x h) value move ∙ ap (λ (ms : List Move). walked (onward ms (placeTally x h))) (sym entry-is)
 
-  index-is : settle (told x h) lines .flags .index ≡ told x (sampled s ∷ h) .flags .index
-  unfolding settle told indexAt
+  index-is : settle (toldAxis x h) lines .flags .index ≡ toldAxis x (sampled s ∷ h) .flags .index
+  unfolding settle toldAxis indexAt
   index-is = rw (move-is, rise-is, counted-is)
 
-  doubles-is : settle (told x h) lines .doubles ≡ told x (sampled s ∷ h) .doubles
-  unfolding settle told doublesTally
+  doubles-is : settle (toldAxis x h) lines .doubles ≡ toldAxis x (sampled s ∷ h) .doubles
+  unfolding settle toldAxis doublesTally
   doubles-is = rw (move-is, entry-is) (doubles-next (doublesTally x h) move)
 
-  pace-is : settle (told x h) lines .pace ≡ told x (sampled s ∷ h) .pace
-  unfolding settle told entries
+  pace-is : settle (toldAxis x h) lines .pace ≡ toldAxis x (sampled s ∷ h) .pace
+  unfolding settle toldAxis entries
   pace-is = rw (move-is, entry-is) (pace-next (x .pace) (entries x h) move)
 
-  told-settles : settle (told x h) lines ≡ told x (sampled s ∷ h)
-  unfolding settle told primedAt lines
+  told-settles : settle (toldAxis x h) lines ≡ toldAxis x (sampled s ∷ h)
+  unfolding settle toldAxis primedAt lines
   told-settles = λ i. record {
     word = word-is i;
     config = x .config;
@@ -95,15 +95,16 @@ module _
     pace = pace-is i;
   }
 
-  lines-are : filtered (told x h) s ≡ lines
+  lines-are : filtered (toldAxis x h) s ≡ lines
   unfolding lines
   lines-are = λ i w. filtered-told x start w s h q i
 
   -- HEADLINE: a sample on a primed axis does what the history with that sample tells, and the bits of the answer are E and the index rise.
-  pub settles : outcome true (told x h) s ≡ answered x s h
+  pub settles : outcome true (toldAxis x h) s ≡ answered x s h
   unfolding outcome answered
   settles = λ i. record {
-    axis = (ap (λ (n : Wire → Line). settle (told x h) n) lines-are ∙ told-settles) i;
-    double = (ap (λ (n : Wire → Line). isE (moveTo (told x h) n)) lines-are ∙ ap isE move-is ∙ sym (double-entry x s h move entry-is)) i;
-    index = (ap (λ (n : Wire → Line). rises (told x h) n) lines-are ∙ rise-is) i;
+    axis = (ap (λ (n : Wire → Line). settle (toldAxis x h) n) lines-are ∙ told-settles) i;
+    double = (ap (λ (n : Wire → Line). isE (moveTo (toldAxis x h) n)) lines-are ∙ ap isE move-is ∙ sym (double-entry x s h move entry-is))
+        i;
+    index = (ap (λ (n : Wire → Line). rises (toldAxis x h) n) lines-are ∙ rise-is) i;
   }

@@ -26,7 +26,7 @@ use Rattle.history.specs.Levels.{primedAt}
 use Rattle.history.specs.Entries.{codeAt, entryAt, doubleAt}
 use Rattle.history.specs.Homing.{homesAt}
 use Rattle.history.specs.Tally.{onward, walked, ranged, placeTally, positionAt, rangeAt}
-use Rattle.history.specs.Shaft.{cycle, shown, ShaftSample, rawAt, watched, angleAt, moved, Gentle, Plain}
+use Rattle.history.specs.Shaft.{cycle, angleCode, ShaftSample, rawAt, watched, angleAt, turnedBy, AtMostTwo, Plain}
 use Rattle.history.proofs.LevelsLaws.{level-one}
 use Rattle.history.proofs.EntriesLaws.{entry-primed, double-entry}
 use Rattle.history.proofs.TallyLaws.{one-clear}
@@ -100,15 +100,15 @@ expected-worth (pos (suc (suc n))) e = absurd (true≢false e)
 expected-worth (negsuc zero) e = refl
 expected-worth (negsuc (suc n)) e = absurd (true≢false e)
 
-entry-shown : (a b : ℤ) → natAbs (b -ℤ a) ≤ 2 → entry X4 (shown a) (shown b) ≡ expected (b -ℤ a)
-unfolding shown
+entry-shown : (a b : ℤ) → natAbs (b -ℤ a) ≤ 2 → entry X4 (angleCode a) (angleCode b) ≡ expected (b -ℤ a)
+unfolding angleCode
 entry-shown a b g =
     ap (λ (n : ℕ). entry X4 (getD cycle (modZ a 4) 0) (getD cycle n 0)) (ap (λ (z : ℤ). modZ z 4) (sym (onto a b)) ∙ mod-add a (b -ℤ a))
     ∙ entry-at (b -ℤ a) g (modZ a 4) (modZ-lt a (omega arith))
 
--- The two levels of a code that is shown make that code.
-code-shown : (angle : ℤ) → code (flagOf 0 (shown angle)) (flagOf 1 (shown angle)) ≡ shown angle
-unfolding shown cycle
+-- The two levels of a code that an angle shows make that code.
+code-shown : (angle : ℤ) → code (flagOf 0 (angleCode angle)) (flagOf 1 (angleCode angle)) ≡ angleCode angle
+unfolding angleCode cycle
 code-shown angle = below-four (λ i. code (flagOf 0 (getD cycle i 0)) (flagOf 1 (getD cycle i 0)) ≡ getD cycle i 0) refl refl refl refl
     (modZ angle 4) (modZ-lt angle (omega arith))
 
@@ -125,11 +125,11 @@ primed-watched x first (t ∷ ts) = refl
 -- ---- one sample
 
 module _ (x : Axis) (start : Start x) (kind : x .config .kind ≡ X4) (depth : x .config .depth ≡ 1) (first : ShaftSample) where
-  code-at : (t : ShaftSample) (h : List Act) → codeAt x (sampled (rawAt t) ∷ h) ≡ shown (t .angle)
+  code-at : (t : ShaftSample) (h : List Act) → codeAt x (sampled (rawAt t) ∷ h) ≡ angleCode (t .angle)
   unfolding codeAt rawAt levelOf
   code-at t h = ap₂ code (level-one x A (rawAt t) h depth) (level-one x B (rawAt t) h depth) ∙ code-shown (t .angle)
 
-  code-watched : (ts : List ShaftSample) → codeAt x (watched first ts) ≡ shown (angleAt first ts)
+  code-watched : (ts : List ShaftSample) → codeAt x (watched first ts) ≡ angleCode (angleAt first ts)
   unfolding watched angleAt
   code-watched [] = code-at first []
   code-watched (t ∷ ts) = code-at t (watched first ts)
@@ -138,23 +138,23 @@ module _ (x : Axis) (start : Start x) (kind : x .config .kind ≡ X4) (depth : x
   move : List ShaftSample → ShaftSample → ℤ
   move ts t = t .angle -ℤ angleAt first ts
 
-  entry-watched : (ts : List ShaftSample) (t : ShaftSample) → moved first ts t ≤ 2 →
+  entry-watched : (ts : List ShaftSample) (t : ShaftSample) → turnedBy first ts t ≤ 2 →
       entryAt x (rawAt t) (watched first ts) ≡ expected (move ts t) ∷ []
-  unfolding moved move
+  unfolding turnedBy move
   entry-watched ts t g =
       entry-primed x (rawAt t) (watched first ts) (primed-watched x first ts)
       ∙ rw (code-watched ts, code-at t (watched first ts))
       (ap (λ (m : Move). m ∷ [])
-      (ap (λ (k : ℕ). entry k (shown (angleAt first ts)) (shown (t .angle))) kind ∙ entry-shown (angleAt first ts) (t .angle) g))
+      (ap (λ (k : ℕ). entry k (angleCode (angleAt first ts)) (angleCode (t .angle))) kind ∙ entry-shown (angleAt first ts) (t .angle) g))
 
-  double-watched : (ts : List ShaftSample) (t : ShaftSample) → moved first ts t ≤ 2 →
+  double-watched : (ts : List ShaftSample) (t : ShaftSample) → turnedBy first ts t ≤ 2 →
       doubleAt x (rawAt t) (watched first ts) ≡ isE (expected (move ts t))
   double-watched ts t g = double-entry x (rawAt t) (watched first ts) (expected (move ts t)) (entry-watched ts t g)
 
   -- HEADLINE: where no move is above two quarter steps, E stands at exactly the samples with two.
-  pub double-at-two : (ts : List ShaftSample) (t : ShaftSample) → moved first ts t ≤ 2 →
-      stepAxis (after x (watched first ts)) (rawAt t) .double ≡ eqb (moved first ts t) 2
-  unfolding moved move
+  pub double-at-two : (ts : List ShaftSample) (t : ShaftSample) → turnedBy first ts t ≤ 2 →
+      stepAxis (after x (watched first ts)) (rawAt t) .double ≡ eqb (turnedBy first ts t) 2
+  unfolding turnedBy move
   double-at-two ts t g =
       double-bit x start (watched first ts) (legal-watched first ts) (rawAt t)
       ∙ double-watched ts t g
@@ -162,12 +162,13 @@ module _ (x : Axis) (start : Start x) (kind : x .config .kind ≡ X4) (depth : x
 
   -- ---- a stretch of samples
 
-  tally-next : (ts : List ShaftSample) (t : ShaftSample) → moved first ts t ≤ 2 → homesAt x (rawAt t) (watched first ts) ≡ false →
+  tally-next : (ts : List ShaftSample) (t : ShaftSample) → turnedBy first ts t ≤ 2 → homesAt x (rawAt t) (watched first ts) ≡ false →
       placeTally x (watched first (t ∷ ts)) ≡ onward (expected (move ts t) ∷ []) (placeTally x (watched first ts))
   unfolding placeTally watched
   tally-next ts t g n = rw (n, entry-watched ts t g)
 
-  stretch : (old new : List ShaftSample) → Gentle first old new → Plain x first old new → rangeAt x (watched first (new ++ old)) ≡ false →
+  stretch : (old new : List ShaftSample) → AtMostTwo first old new → Plain x first old new →
+      rangeAt x (watched first (new ++ old)) ≡ false →
       positionAt x (watched first (new ++ old))
       ≡ positionAt x (watched first old) +ℤ (angleAt first (new ++ old) -ℤ angleAt first old)
   unfolding angleAt move
@@ -186,7 +187,7 @@ module _ (x : Axis) (start : Start x) (kind : x .config .kind ≡ X4) (depth : x
   -- HEADLINE: over any stretch of samples without E or homing, also after an earlier E, the position moves exactly as the shaft does, where
   -- RANGE is
   -- clear.
-  pub moves-as-shaft : (old new : List ShaftSample) → Gentle first old new → Plain x first old new →
+  pub moves-as-shaft : (old new : List ShaftSample) → AtMostTwo first old new → Plain x first old new →
       after x (watched first (new ++ old)) .flags .range ≡ false →
       positionOf (after x (watched first (new ++ old)) .word)
       ≡ positionOf (after x (watched first old) .word) +ℤ (angleAt first (new ++ old) -ℤ angleAt first old)

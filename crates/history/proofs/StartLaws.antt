@@ -21,7 +21,7 @@ use Rattle.history.specs.Acts.{Act, act, after, Legal}
 use Rattle.history.specs.Start.{Start}
 use Rattle.history.specs.Tally.{positionAt}
 use Rattle.history.specs.Pace.{ageOf}
-use Rattle.history.specs.Told.{told}
+use Rattle.history.specs.Told.{toldAxis}
 use Rattle.history.proofs.LevelsLaws.{line-told, run-short}
 use Rattle.history.proofs.ToldLaws.{position-in, whole-history}
 
@@ -63,8 +63,8 @@ start-fresh c p deep e = record {
     short B = deep
     short Z = deep
 
-start-told : (x : Axis) → Start x → (h : List Act) → Legal h → Start (told x h)
-unfolding told ageOf
+start-told : (x : Axis) → Start x → (h : List Act) → Legal h → Start (toldAxis x h)
+unfolding toldAxis ageOf
 start-told x start h l =
     let p = position-in x start h l in
     record {

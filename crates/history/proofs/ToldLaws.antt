@@ -24,7 +24,7 @@ use Rattle.history.specs.Homing.{armedAt, homesAt, homedAt}
 use Rattle.history.specs.Tally.{given, onward, clear, walk, heldIn, placeTally, positionAt, doublesTally}
 use Rattle.history.specs.Pace.{directionOf, gapOf, ageOf, periodOf}
 use Rattle.history.specs.Index.{indexAt}
-use Rattle.history.specs.Told.{told, answered}
+use Rattle.history.specs.Told.{toldAxis, answered}
 use Rattle.history.proofs.LevelsLaws.{line-first}
 use Rattle.history.proofs.TallyLaws.{walk-in-range}
 use Rattle.history.proofs.PrimeLaws.{primes}
@@ -52,8 +52,8 @@ module _ (x : Axis) (start : Start x) where
   age-first = omega (arith, start .age)
 
   -- An empty history tells the starting axis.
-  pub told-first : told x [] ≡ x
-  unfolding told primedAt armedAt homedAt indexAt placeTally walk heldIn doublesTally numberOfE entries directionOf gapOf ageOf periodOf
+  pub told-first : toldAxis x [] ≡ x
+  unfolding toldAxis primedAt armedAt homedAt indexAt placeTally walk heldIn doublesTally numberOfE entries directionOf gapOf ageOf periodOf
   told-first = λ i. record {
     word = word-position (x .word) (start .word) i;
     config = x .config;
@@ -85,17 +85,17 @@ module _ (x : Axis) (start : Start x) where
   -- ---- the acts
 
   -- A sample on the axis that a history tells.
-  pub sample-told : (s : Raw) (h : List Act) → Legal h → stepAxis (told x h) s ≡ answered x s h
-  unfolding stepAxis told
+  pub sample-told : (s : Raw) (h : List Act) → Legal h → stepAxis (toldAxis x h) s ≡ answered x s h
+  unfolding stepAxis toldAxis
   sample-told s h l = go (primedAt x h) refl
     where
-      go : (b : Bool) → primedAt x h ≡ b → outcome b (told x h) s ≡ answered x s h
+      go : (b : Bool) → primedAt x h ≡ b → outcome b (toldAxis x h) s ≡ answered x s h
       go true q = settles x start s h (value-in-range h l) q
       go false q = primes x s h q
 
   -- An act on the axis that a history tells.
-  pub act-told : (a : Act) (h : List Act) → Legal (a ∷ h) → act (told x h) a ≡ told x (a ∷ h)
-  unfolding act changed answered told primedAt since levelAt runAt armedAt homedAt indexAt placeTally walk heldIn doublesTally numberOfE
+  pub act-told : (a : Act) (h : List Act) → Legal (a ∷ h) → act (toldAxis x h) a ≡ toldAxis x (a ∷ h)
+  unfolding act changed answered toldAxis primedAt since levelAt runAt armedAt homedAt indexAt placeTally walk heldIn doublesTally numberOfE
       entries
   act-told (sampled s) h l = ap (λ (o : Stepped). o .axis) (sample-told s h (l .1))
   act-told (preset p) h l = refl
@@ -103,7 +103,7 @@ module _ (x : Axis) (start : Start x) where
   act-told acknowledge h l = refl
 
   -- HEADLINE: the axis after a history is, in every field, the one that the history tells.
-  pub whole-history : (h : List Act) → Legal h → after x h ≡ told x h
+  pub whole-history : (h : List Act) → Legal h → after x h ≡ toldAxis x h
   unfolding after
   whole-history [] l = sym told-first
   whole-history (a ∷ h) l = ap (λ (y : Axis). act y a) (whole-history h (l .1)) ∙ act-told a h l

@@ -6,7 +6,7 @@ use lib.IntN.{ℤ}
 use Rattle.axis.specs.declared.row.Row.{Row}
 use Rattle.axis_sound.specs.Sound.{statusOf}
 use Rattle.axis_sound.specs.declared.Status.the-variants.{Counter}
-use Rattle.row_counter.specs.Counter.{shown}
+use Rattle.row_counter.specs.Counter.{lowBits}
 use Rattle.runs.specs.Op.{reading}
 use Rattle.runs.specs.Event.{Event, asked, rowNext}
 
@@ -17,5 +17,5 @@ Aside e = (r : Row) → statusOf r ≡ Counter → rowNext r e ≡ r
 -- Events that read a counter of w bits at each of some positions, with others between that leave it alone.
 pub data CounterReads (w : ℕ) : List Event → List ℤ → Type 0 where
   none : CounterReads w [] []
-  read : {h : List Event} {ps : List ℤ} (p : ℤ) → CounterReads w h ps → CounterReads w (asked (reading (shown w p)) ∷ h) (p ∷ ps)
+  read : {h : List Event} {ps : List ℤ} (p : ℤ) → CounterReads w h ps → CounterReads w (asked (reading (lowBits w p)) ∷ h) (p ∷ ps)
   between : {h : List Event} {ps : List ℤ} (e : Event) → Aside e → CounterReads w h ps → CounterReads w (e ∷ h) ps

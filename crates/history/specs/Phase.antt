@@ -32,7 +32,7 @@ use Rattle.history.specs.Acts.{Act, sampled}
 use Rattle.history.specs.Acts.{preset as placed, arm as armed, acknowledge as acknowledged}
 use Rattle.history.specs.Entries.{doubleAt}
 use Rattle.history.specs.Levels.{roseAt}
-use Rattle.history.specs.Told.{told}
+use Rattle.history.specs.Told.{toldAxis}
 
 -- A phase: the row that it began with, what has happened to a sampled axis since, newest first, and where a counter is.
 pub record Phase : Type 0 where
@@ -105,7 +105,7 @@ actsSince r h = phaseOf r h .acts
 
 -- The row that a phase tells, by what it began with.
 unfoldable pub toldBy : Status → Phase → Row
-toldBy Sampled p = rowOf (told (axisOf (p .start)) (p .acts))
+toldBy Sampled p = rowOf (toldAxis (axisOf (p .start)) (p .acts))
 toldBy Counter p = rowOf (readAxis (p .place) (axisOf (p .start)))
 toldBy Empty p = p .start
 toldBy Broken p = p .start

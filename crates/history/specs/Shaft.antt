@@ -18,8 +18,8 @@ unfoldable pub cycle : List ℕ
 cycle = 0 ∷ 1 ∷ 3 ∷ 2 ∷ []
 
 -- The code at an angle.
-unfoldable pub shown : ℤ → ℕ
-shown angle = getD cycle (modZ angle 4) 0
+unfoldable pub angleCode : ℤ → ℕ
+angleCode angle = getD cycle (modZ angle 4) 0
 
 -- A sample of the shaft: the angle, and any level of Z.
 pub record ShaftSample : Type 0 where
@@ -28,7 +28,7 @@ pub record ShaftSample : Type 0 where
 
 -- Its raw levels.
 unfoldable pub rawAt : ShaftSample → Raw
-rawAt t = record { a = flagOf 0 (shown (t .angle)); b = flagOf 1 (shown (t .angle)); z = t .z }
+rawAt t = record { a = flagOf 0 (angleCode (t .angle)); b = flagOf 1 (angleCode (t .angle)); z = t .z }
 
 -- The history of a shaft with no call between: a first sample, as the one that primes is, and later ones, newest first.
 unfoldable pub watched : ShaftSample → List ShaftSample → List Act
@@ -40,14 +40,14 @@ unfoldable pub angleAt : ShaftSample → List ShaftSample → ℤ
 angleAt first [] = first .angle
 angleAt first (t ∷ ts) = t .angle
 
--- How far the shaft moved, net, from the newest sample to the sample t.
-unfoldable pub moved : ShaftSample → List ShaftSample → ShaftSample → ℕ
-moved first ts t = natAbs (t .angle -ℤ angleAt first ts)
+-- How far the shaft turned, net, from the newest sample to the sample t.
+unfoldable pub turnedBy : ShaftSample → List ShaftSample → ShaftSample → ℕ
+turnedBy first ts t = natAbs (t .angle -ℤ angleAt first ts)
 
 -- No move of the stretch `new`, which followed on `old`, was above two quarter steps.
-abbrev pub Gentle : ShaftSample → List ShaftSample → List ShaftSample → Type 0
-Gentle first old [] = Unit {0}
-Gentle first old (t ∷ new) = (moved first (new ++ old) t ≤ 2) × Gentle first old new
+abbrev pub AtMostTwo : ShaftSample → List ShaftSample → List ShaftSample → Type 0
+AtMostTwo first old [] = Unit {0}
+AtMostTwo first old (t ∷ new) = (turnedBy first (new ++ old) t ≤ 2) × AtMostTwo first old new
 
 -- No sample of that stretch had E or homed.
 abbrev pub Plain : Axis → ShaftSample → List ShaftSample → List ShaftSample → Type 0

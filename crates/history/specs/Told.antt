@@ -14,8 +14,8 @@ use Rattle.history.specs.Pace.{paceOf}
 use Rattle.history.specs.Index.{indexAt}
 
 -- The axis after a history h that started from the axis x, by the starting axis and the acts alone; a configuration never changes.
-unfoldable pub told : Axis → List Act → Axis
-told x h = record {
+unfoldable pub toldAxis : Axis → List Act → Axis
+toldAxis x h = record {
   word = wordOf (positionAt x h);
   config = x .config;
   flags = record { primed = primedAt x h; armed = armedAt x h; homed = homedAt x h; range = rangeAt x h; index = indexAt x h };
@@ -27,4 +27,4 @@ told x h = record {
 
 -- The axis after the sample s after h, and its bits of the answer.
 unfoldable pub answered : Axis → Raw → List Act → Stepped
-answered x s h = record { axis = told x (sampled s ∷ h); double = doubleAt x s h; index = roseAt x s h }
+answered x s h = record { axis = toldAxis x (sampled s ∷ h); double = doubleAt x s h; index = roseAt x s h }

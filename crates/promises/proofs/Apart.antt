@@ -9,7 +9,7 @@ use Rattle.promises.specs.Own.{events}
 use Rattle.promises.proofs.RunLaws.{alone}
 
 -- What two runs agree on for axis k.
-pub record Agree (k : ℕ) (t u : List ℕ) (cs ds : List Call) : Type 0 where
+pub record AgreeOn (k : ℕ) (t u : List ℕ) (cs ds : List Call) : Type 0 where
   pub row : rowAt (tableRun t cs) k ≡ rowAt (tableRun u ds) k
   pub answers : heard k t cs ≡ heard k u ds
   pub rows : rows k t cs ≡ rows k u ds
@@ -20,7 +20,7 @@ pub record Agree (k : ℕ) (t u : List ℕ) (cs ds : List Call) : Type 0 where
 -- bytes that a
 -- save wrote and its bits of the masks agree, whatever the other axes did.
 pub apart : (k : ℕ) (t u : List ℕ) → length t ≡ length u → k < axesIn (length t) → rowAt t k ≡ rowAt u k →
-    (cs ds : List Call) → events k cs ≡ events k ds → Agree k t u cs ds
+    (cs ds : List Call) → events k cs ≡ events k ds → AgreeOn k t u cs ds
 apart k t u l h e cs ds q =
     let a = alone t k h cs in
     let b = alone u k (rw (← l) h) ds in

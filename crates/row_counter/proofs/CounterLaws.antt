@@ -18,7 +18,7 @@ use Rattle.axis_sound.specs.declared.Status.the-variants.{Counter}
 use Rattle.axis_sound.proofs.SoundLaws.{counter-gives}
 use Rattle.row_counter.specs.Reading.{readAxis, readingOf, readingRow, storedRow, readRow}
 use Rattle.row_calls.specs.Calls.{leftBy}
-use Rattle.row_counter.specs.Counter.{newest, shown, rowRead, Gentle, still, moved, At}
+use Rattle.row_counter.specs.Counter.{newest, lowBits, rowRead, UnderHalf, still, polled, At}
 use Rattle.row_calls.proofs.ChangeLaws.{counter-holds}
 use Rattle.row_counter.proofs.ReadingLaws.{read-at, read-kept}
 
@@ -43,15 +43,15 @@ module _ (w : ℕ) (W : ℤ) (q : Row) (at : At w W q) (okW : inRange W ≡ true
   good = rw (le-leb 2 w (rw wide at (counter .narrow)), le-leb w 32 (rw wide at (counter .wide)))
 
   -- The reading answers the true position.
-  one-answer : readingRow (shown w p) q ≡ Number p
+  one-answer : readingRow (lowBits w p) q ≡ Number p
   unfolding readingRow
   one-answer =
       rw (at .status)
-      (ap (readingOf (shown w p)) (at .axis)
+      (ap (readingOf (lowBits w p)) (at .axis)
       ∙ rw (position-word W okW) (true-position w W p good okW ok near))
 
   -- The row is then at it.
-  one-row : At w p (leftBy q (readRow (shown w p) q))
+  one-row : At w p (leftBy q (readRow (lowBits w p) q))
   unfolding readRow storedRow
   one-row =
       let h = counter-holds (readAxis p (axisOf q)) (read-kept (axisOf q) p ok counter) in
@@ -69,23 +69,23 @@ module _ (r : Row) (counter : statusOf r ≡ Counter) where
   abbrev start : ℤ
   start = positionOf (axisOf r .word)
 
-  newest-in-range : {ps : List ℤ} → Gentle bits start ps → inRange (newest start ps) ≡ true
+  newest-in-range : {ps : List ℤ} → UnderHalf bits start ps → inRange (newest start ps) ≡ true
   newest-in-range still = position-in-range (axisOf r .word) (counter-gives r counter .word)
-  newest-in-range (moved p ps ok near g) = ok
+  newest-in-range (polled p ps ok near g) = ok
 
   -- HEADLINE: after readings of a shaft that moves gently, the row is a counter as setup leaves it, at the shaft's position.
-  pub counter-follows : {ps : List ℤ} → Gentle bits start ps → At bits (newest start ps) (rowRead bits r ps)
+  pub counter-follows : {ps : List ℤ} → UnderHalf bits start ps → At bits (newest start ps) (rowRead bits r ps)
   unfolding rowRead
   counter-follows still = at-start r counter
-  counter-follows (moved p ps ok near g) =
+  counter-follows (polled p ps ok near g) =
       one-row bits (newest start ps) (rowRead bits r ps) (counter-follows g) (newest-in-range g) p ok near
 
   -- HEADLINE: so its position is the true one after each reading.
-  pub counter-position : {ps : List ℤ} → Gentle bits start ps → positionOf (axisOf (rowRead bits r ps) .word) ≡ newest start ps
+  pub counter-position : {ps : List ℤ} → UnderHalf bits start ps → positionOf (axisOf (rowRead bits r ps) .word) ≡ newest start ps
   counter-position {ps} g =
       ap (λ (a : Axis). positionOf (a .word)) (counter-follows g .axis) ∙ position-word (newest start ps) (newest-in-range g)
 
   -- HEADLINE: and each reading is accepted and answers the true position.
-  pub counter-answers : {p : ℤ} {ps : List ℤ} → Gentle bits start (p ∷ ps) → readingRow (shown bits p) (rowRead bits r ps) ≡ Number p
-  counter-answers (moved p ps ok near g) =
+  pub counter-answers : {p : ℤ} {ps : List ℤ} → UnderHalf bits start (p ∷ ps) → readingRow (lowBits bits p) (rowRead bits r ps) ≡ Number p
+  counter-answers (polled p ps ok near g) =
       one-answer bits (newest start ps) (rowRead bits r ps) (counter-follows g) (newest-in-range g) p ok near

@@ -19,18 +19,18 @@ newest W [] = W
 newest W (p ∷ ps) = p
 
 -- What a counter of w bits shows at a position: its low bits.
-abbrev pub shown : ℕ → ℤ → ℕ
-shown w p = modZ p (2 ^ w)
+abbrev pub lowBits : ℕ → ℤ → ℕ
+lowBits w p = modZ p (2 ^ w)
 
 -- The row after a reading at each of the positions.
 unfoldable pub rowRead : ℕ → Row → List ℤ → Row
 rowRead w r [] = r
-rowRead w r (p ∷ ps) = leftBy (rowRead w r ps) (readRow (shown w p) (rowRead w r ps))
+rowRead w r (p ∷ ps) = leftBy (rowRead w r ps) (readRow (lowBits w p) (rowRead w r ps))
 
 -- From the position W on, the shaft stays in the range and moves less than half a turn of the counter from reading to reading.
-pub data Gentle (w : ℕ) (W : ℤ) : List ℤ → Type 0 where
-  still : Gentle w W []
-  moved : (p : ℤ) (ps : List ℤ) → inRange p ≡ true → 2 * natAbs (p -ℤ newest W ps) < 2 ^ w → Gentle w W ps → Gentle w W (p ∷ ps)
+pub data UnderHalf (w : ℕ) (W : ℤ) : List ℤ → Type 0 where
+  still : UnderHalf w W []
+  polled : (p : ℤ) (ps : List ℤ) → inRange p ≡ true → 2 * natAbs (p -ℤ newest W ps) < 2 ^ w → UnderHalf w W ps → UnderHalf w W (p ∷ ps)
 
 -- A counter row of w bits at a position.
 pub record At (w : ℕ) (p : ℤ) (q : Row) : Type 0 where
