@@ -9,7 +9,7 @@ use lib.Dec.{T, eqb, eqb→eq, eqb-refl}
 use lib.IntN.{ℤ, pos, negsuc, _+ℤ_, natAbs}
 use mir.Syntax.{w8}
 use mir.Val.{ofZ}
-use Rattle.integers.proofs.Balance.{Tested, yes, no, test}
+use Rattle.integers.proofs.Balance.{Decided, yes, no, test}
 use Rattle.axis.specs.Kind.{X1, X2, X4, sampledKind}
 use Rattle.axis_decode.specs.Decode.{x1, x2, x4, tableOf, entryIn, entry, nextCode, opposite, worth, isE, mark}
 use Rattle.axis_decode.specs.declared.Move.{Move}
@@ -140,7 +140,7 @@ pub cycle-forward : (kind : ℕ) → sampledKind kind ≡ true →
 unfolding worth entry tableOf x1 x2 x4
 cycle-forward kind h = go (test (eqb kind X1)) (test (eqb kind X2)) (test (eqb kind X4))
   where
-    go : Tested (eqb kind X1) → Tested (eqb kind X2) → Tested (eqb kind X4) →
+    go : Decided (eqb kind X1) → Decided (eqb kind X2) → Decided (eqb kind X4) →
         worth (entry kind 0 1) +ℤ worth (entry kind 1 3) +ℤ worth (entry kind 3 2) +ℤ worth (entry kind 2 0) ≡ pos kind
     go (yes e) q r = rw (eqb-true kind X1 e)
     go (no e) (yes f) r = rw (eqb-true kind X2 f)

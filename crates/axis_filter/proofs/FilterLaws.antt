@@ -5,7 +5,7 @@ use mathlib.Core.Bool.{Bool, true, false, cond, not, Bool·beq}
 use native.Mathlib.Omega.{arith}
 use borrow.Author.Tests.{eqb-false, eq-eqb, ne-eqb}
 use lib.Dec.{eqb}
-use Rattle.integers.proofs.Balance.{Tested, yes, no, test}
+use Rattle.integers.proofs.Balance.{Decided, yes, no, test}
 use Rattle.axis_filter.specs.Filter.{filterLine}
 use Rattle.axis_filter.specs.declared.Line.{Line}
 
@@ -39,7 +39,7 @@ module _ (d : ℕ) (l : Line) where
   unfolding filterLine
   filter-short raw h = go (Bool·beq raw (l .level)) (test (eqb (l .run + 1) d))
     where
-      go : (b : Bool) → Tested (eqb (l .run + 1) d) →
+      go : (b : Bool) → Decided (eqb (l .run + 1) d) →
           cond {A = Line} b (record { level = l .level; run = 0 })
           (cond (eqb (l .run + 1) d) (record { level = not (l .level); run = 0 }) (record { level = l .level; run = l .run + 1 })) .run < d
       go true t = omega arith

@@ -8,7 +8,7 @@ use borrow.Author.Tests.{lt-ltb, le-ltb, ne-eqb, ltb-true, ltb-false}
 use lib.Dec.{eqb, ltb}
 use lib.IntN.{ℤ, pos, negsuc, natAbs}
 use Rattle.integers.specs.Integer.{modZ}
-use Rattle.integers.proofs.Balance.{Tested, yes, no, test}
+use Rattle.integers.proofs.Balance.{Decided, yes, no, test}
 use Rattle.position.specs.Position.{positionOf}
 use Rattle.axis_motion.specs.Index.{offTurn}
 
@@ -38,7 +38,7 @@ back-turns a m h =
     whole : suc a ≡ suc (a % m) + a / m * m
     whole = omega (arith, div-add-mod' a m)
 
-    go : Tested (ltb (suc (a % m)) m) → eqb (suc (a % m) % m) 0 ≡ eqb (m - suc (a % m)) 0
+    go : Decided (ltb (suc (a % m)) m) → eqb (suc (a % m) % m) 0 ≡ eqb (m - suc (a % m)) 0
     go (yes e) =
         let f = ltb-true (suc (a % m)) m e in
         rw (mod-eq-of-lt f, ne-eqb (m - suc (a % m)) 0 (λ z. let y : ⊥ = omega arith in y))

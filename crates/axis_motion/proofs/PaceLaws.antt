@@ -5,7 +5,7 @@ use mathlib.Core.Bool.{Bool, true, false, cond, _&&_, and-false}
 use native.Mathlib.Omega.{arith}
 use borrow.Author.Tests.{ltb-true, lt-ltb, eq-eqb, ne-eqb}
 use lib.Dec.{ltb, lit<, lit≤}
-use Rattle.integers.proofs.Balance.{Tested, yes, no, test}
+use Rattle.integers.proofs.Balance.{Decided, yes, no, test}
 use Rattle.axis_motion.specs.Pace.{older, pacedDirection, pacedAge, stepPeriod, pacedPeriod}
 use Rattle.axis_decode.specs.declared.Move.{Move}
 use Rattle.axis_decode.specs.declared.Move.the-variants.{Still, Forward, Back, Double}
@@ -30,7 +30,7 @@ step-below : (side direction age : ℕ) → stepPeriod side direction age ≤ 2 
 unfolding stepPeriod
 step-below side direction age = go (test (ltb (older age) (2 ^ 32 - 1))) _
   where
-    go : Tested (ltb (older age) (2 ^ 32 - 1)) → (b : Bool) → cond (ltb (older age) (2 ^ 32 - 1) && b) (older age) 0 ≤ 2 ^ 32 - 2
+    go : Decided (ltb (older age) (2 ^ 32 - 1)) → (b : Bool) → cond (ltb (older age) (2 ^ 32 - 1) && b) (older age) 0 ≤ 2 ^ 32 - 2
     go (yes e) true = rw e (omega (arith, ltb-true))
     go (yes e) false = rw e (omega arith)
     go (no e) b = rw e (omega arith)

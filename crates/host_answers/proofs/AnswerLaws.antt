@@ -9,7 +9,7 @@ use Rattle.reckon.specs.declared.Reckoned.{Reckoned}
 use Rattle.reckon.specs.declared.speed.Speed.{Speed}
 use Rattle.reckon.proofs.ReckonedLaws.{reckoned-apart}
 use Rattle.reckon.proofs.SpeedLaws.{speed-one-number}
-use Rattle.record.specs.declared.answer.Checked.{Checked}
+use Rattle.record.specs.declared.answer.Tested.{Tested}
 use Rattle.record.specs.declared.answer.Written.{Written}
 use Rattle.record.proofs.AnswerLaws.{test-told, save-told}
 use Rattle.row_calls.specs.Answer.{viewValue}
@@ -40,7 +40,7 @@ pub speed-apart : (a b : Speed) → answerSpeed a ≡ answerSpeed b → a ≡ b
 speed-apart a b e = speed-one-number a b (answer-apart (speedNumber a) (speedNumber b) e)
 
 -- HEADLINE: so had two record tests.
-pub test-apart : (a b : Checked) → answerTest a ≡ answerTest b → a ≡ b
+pub test-apart : (a b : Tested) → answerTest a ≡ answerTest b → a ≡ b
 unfolding answerTest
 test-apart a b e = test-told a b (ap (λ (x : Answer). x .refusal) e) (ap (λ (x : Answer). x .found) e)
 

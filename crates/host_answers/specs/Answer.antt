@@ -8,7 +8,7 @@ use Rattle.reckon.specs.Speed.{speedNumber}
 use Rattle.reckon.specs.declared.Reckoned.{Reckoned}
 use Rattle.reckon.specs.declared.speed.Speed.{Speed}
 use Rattle.record.specs.Answer.{testedNumber, testedFound, writtenNumber, writtenFound, writtenBytes}
-use Rattle.record.specs.declared.answer.Checked.{Checked}
+use Rattle.record.specs.declared.answer.Tested.{Tested}
 use Rattle.record.specs.declared.answer.Written.{Written}
 use Rattle.row_calls.specs.Answer.{doneNumber, doneFound, viewNumber, viewFound, viewValue}
 use Rattle.row_calls.specs.declared.answer.Done.{Done}
@@ -36,7 +36,7 @@ abbrev pub answerSpeed : Speed → Answer
 answerSpeed s = answerTo (speedNumber s)
 
 -- The paper's number and found number of a record test's answer, which has no value.
-unfoldable pub answerTest : Checked → Answer
+unfoldable pub answerTest : Tested → Answer
 answerTest a = record { refusal = testedNumber a; found = testedFound a; value = pos 0 }
 
 -- The paper's number and found number of a call that says only that it was done.

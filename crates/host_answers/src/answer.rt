@@ -6,7 +6,7 @@ ghost use Rattle.host_answers.specs.Answer.{answerValue, answerRefused, 
 ghost use Rattle.host_answers.specs.Answer.{answerTest, answerDone, answerWritten};
 use reckon::Reckoned;
 use reckon::speed::Speed;
-use record::answer::Checked;
+use record::answer::Tested;
 use record::answer::Written;
 use refusal::Refusal;
 use row_calls::answer::Done;
@@ -72,12 +72,12 @@ pub fn of_done(d: Done) -> Answer
 }
 
 // The answer of a record test.
-pub fn of_tested(t: Checked) -> Answer
+pub fn of_tested(t: Tested) -> Answer
     ensures { λ a. ⌜ a ≡ answerTest t ⌝ }
 {
     match t {
-        Checked::Accepted => of_value(0),
-        Checked::Refused(e) => of_refusal(e),
+        Tested::Accepted => of_value(0),
+        Tested::Refused(e) => of_refusal(e),
     }
 }
 

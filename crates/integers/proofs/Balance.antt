@@ -14,18 +14,18 @@ use lib.Signed.{leZ, ltZ}
 use Rattle.integers.specs.Integer.{plus, minus, modZ, floorZ}
 
 -- A test, with what it says.
-pub data Tested (t : Bool) : Type 0 where
-  yes : t ≡ true → Tested t
-  no : t ≡ false → Tested t
+pub data Decided (t : Bool) : Type 0 where
+  yes : t ≡ true → Decided t
+  no : t ≡ false → Decided t
 
-pub test : (t : Bool) → Tested t
+pub test : (t : Bool) → Decided t
 test true = yes refl
 test false = no refl
 
 pub bal-subℕ : (a b : ℕ) → plus (subℕ a b) + b ≡ a + minus (subℕ a b)
 bal-subℕ a b = go (test (ltb a b))
   where
-    go : Tested (ltb a b) → plus (subℕ a b) + b ≡ a + minus (subℕ a b)
+    go : Decided (ltb a b) → plus (subℕ a b) + b ≡ a + minus (subℕ a b)
     go (yes e) = rw e (omega (arith, ltb-true a b e))
     go (no e) = rw e (omega (arith, ltb-false a b e))
 
@@ -146,7 +146,7 @@ near-one {x} {y} {m} {t} h k below above = eqZ x y (same (h .down + k .up) (k .d
     same : (a b : ℕ) → plus x + minus y + b * m ≡ plus y + minus x + a * m → plus x + minus y ≡ plus y + minus x
     same a b apart = by (test (ltb a b)) (test (ltb b a))
       where
-        by : Tested (ltb a b) → Tested (ltb b a) → plus x + minus y ≡ plus y + minus x
+        by : Decided (ltb a b) → Decided (ltb b a) → plus x + minus y ≡ plus y + minus x
         by (yes e) _ = absurd (omega (arith, apart, mul-le-mul-right m (ltb-true a b e)))
         by (no e) (yes f) = absurd (omega (arith, apart, mul-le-mul-right m (ltb-true b a f)))
         by (no e) (no f) =

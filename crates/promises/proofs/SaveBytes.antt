@@ -7,7 +7,7 @@ use borrow.Author.Tests.{leb-true}
 use lib.Dec.{leb}
 use lib.ListN.{length, take, drop}
 use lib.Seq.{take-at}
-use Rattle.integers.proofs.Balance.{Tested, yes, no, test}
+use Rattle.integers.proofs.Balance.{Decided, yes, no, test}
 use Rattle.refusal.specs.declared.Refusal.the-variants.{Value, Room}
 use Rattle.axis_sound.specs.Sound.{statusOf}
 use Rattle.axis.specs.Row.{axisOf}
@@ -35,7 +35,7 @@ module _ (s : Saved) (b : List ℕ) where
   unfolding savedAs
   bytes-are = go (test (withinLimits s)) (test (leb (length (recordOf s)) (length b)))
     where
-      go : Tested (withinLimits s) → Tested (leb (length (recordOf s)) (length b)) →
+      go : Decided (withinLimits s) → Decided (leb (length (recordOf s)) (length b)) →
           toldBytes (savedAs (length b) s) (written b s) ≡ recorded (length b)
       go (no w) f = rw w
       go (yes w) (no f) = rw (w, f)

@@ -11,7 +11,7 @@ use lib.Dec.{ltb, eqb}
 use lib.IntN.{ℤ, pos, natAbs, _+ℤ_, _-ℤ_}
 use lib.Pow.{pow-pos}
 use Rattle.integers.specs.Integer.{plus, minus, modZ}
-use Rattle.integers.proofs.Balance.{eqZ, bal-add, bal-sub, modZ-lt, Turns, turns, mod-turns, near-one, Tested, yes, no, test}
+use Rattle.integers.proofs.Balance.{eqZ, bal-add, bal-sub, modZ-lt, Turns, turns, mod-turns, near-one, Decided, yes, no, test}
 use Rattle.position.specs.Position.{inRange}
 use Rattle.refusal.specs.declared.Refusal.the-variants.{Value, Half, Range}
 use Rattle.reckon.specs.declared.Reckoned.{Reckoned}
@@ -53,7 +53,7 @@ module _ (w : ℕ) (W p : ℤ) where
         eqZ _ _ (omega (arith, bal-add W (pos t))),
       )
 
-      down : plus W + minus p ≡ t + (plus p + minus W) → Tested (ltb 0 t) →
+      down : plus W + minus p ≡ t + (plus p + minus W) → Decided (ltb 0 t) →
           ((ahead ≡ t) × (W +ℤ pos t ≡ p)) ⊎ ((ahead ≡ m - t) × ((W +ℤ pos (m - t)) -ℤ pos m ≡ p))
       down e (no z) = up (omega (arith, ltb-false 0 t z))
       down e (yes z) = let some = ltb-true 0 t z in inr (
@@ -98,7 +98,7 @@ module _ (w : ℕ) (W : ℤ) (r : ℕ) (good : goodReading w W r ≡ true) where
   unfolding orRange
   settled p b l = go (test (inRange p)) (rw b at (near-position w W p (rw b good) l))
     where
-      go : Tested (inRange p) → widened w W r ≡ cond (inRange p) (Number p) (Refused Range) → Verdict w W r (widened w W r)
+      go : Decided (inRange p) → widened w W r ≡ cond (inRange p) (Number p) (Refused Range) → Verdict w W r (widened w W r)
       go (yes e) q = at good p b l e (rw e at q)
       go (no e) q = range good p b l e (rw e at q)
 
@@ -117,7 +117,7 @@ module _ (w : ℕ) (W : ℤ) (r : ℕ) (good : goodReading w W r ≡ true) where
       far : natAbs (p -ℤ W) ≡ d
       far = ⊎-elim (λ h. omega (arith, h, bal-add W (pos d))) (λ h. omega (arith, h, bal-add W (pos d))) (far-cases p W)
 
-      go : Tested (ltb (2 * d) (2 ^ w)) → Tested (eqb (2 * d) (2 ^ w)) → Verdict w W r (widened w W r)
+      go : Decided (ltb (2 * d) (2 ^ w)) → Decided (eqb (2 * d) (2 ^ w)) → Verdict w W r (widened w W r)
       go (yes e) f = settled p up (omega (arith, far, ltb-true (2 * d) (2 ^ w) e))
       go (no e) (yes f) =
           let h : 2 * natAbs (p -ℤ W) ≡ 2 ^ w = omega (arith, far, eqb-true (2 * d) (2 ^ w) f) in
@@ -134,7 +134,7 @@ module _ (w : ℕ) (W : ℤ) (r : ℕ) (good : goodReading w W r ≡ true) where
 pub verdict : (w : ℕ) (W : ℤ) (r : ℕ) → Verdict w W r (widened w W r)
 verdict w W r = go (test (goodReading w W r))
   where
-    go : Tested (goodReading w W r) → Verdict w W r (widened w W r)
+    go : Decided (goodReading w W r) → Verdict w W r (widened w W r)
     go (yes e) = good-verdict w W r e
     go (no e) = value e (unfold widened in rw e)
 
@@ -168,7 +168,7 @@ only w W z r b n y e = go (test (ltb (natAbs (z -ℤ W)) (natAbs (y -ℤ W))))
     at-r : (x : ℤ) → modZ x (2 ^ w) ≡ r → Turns x (2 ^ w) r
     at-r x q = subst (Turns x (2 ^ w)) q (turns x (pow-pos w))
 
-    go : Tested (ltb (natAbs (z -ℤ W)) (natAbs (y -ℤ W))) → (y ≡ z) ⊎ (natAbs (z -ℤ W) < natAbs (y -ℤ W))
+    go : Decided (ltb (natAbs (z -ℤ W)) (natAbs (y -ℤ W))) → (y ≡ z) ⊎ (natAbs (z -ℤ W) < natAbs (y -ℤ W))
     go (yes f) = inr (ltb-true _ _ f)
     go (no f) =
         let l = ltb-false (natAbs (z -ℤ W)) (natAbs (y -ℤ W)) f in

@@ -11,7 +11,7 @@ use lib.Signed.{quotZ}
 use mir.Syntax.{w64}
 use mir.Val.{SFits}
 use Rattle.integers.specs.Integer.{plus, minus}
-use Rattle.integers.proofs.Balance.{Tested, yes, no, test, abs-is, bal-add, bal-neg, bal-times, bal-scale, size-add}
+use Rattle.integers.proofs.Balance.{Decided, yes, no, test, abs-is, bal-add, bal-neg, bal-times, bal-scale, size-add}
 use Rattle.integers.proofs.Machine.{fits-size, no-pos, quot-down}
 use Rattle.reckon.specs.Rounding.{awayFrom, rounded, Rounds}
 use Rattle.reckon.proofs.NumberLaws.{far-cases, abs-neg, scale-neg, far-neg}
@@ -100,7 +100,7 @@ module _ (a t : ℕ) (some : 0 < t) where
       d : ℕ
       d = natAbs ((pos b *ℤ pos t) -ℤ pos a)
 
-      go : a ≡ d + b * t → Tested (ltb (2 * d) t) → (2 * (b * t) ≤ 2 * a + t) × (2 * a + t < 2 * (b * t) + 2 * t)
+      go : a ≡ d + b * t → Decided (ltb (2 * d) t) → (2 * (b * t) ≤ 2 * a + t) × (2 * a + t < 2 * (b * t) + 2 * t)
       go e (yes f) = omega (arith, e, ltb-true (2 * d) t f)
       go e (no f) = let l = ltb-false (2 * d) t f in omega (arith, e, h .near, h .away (omega (arith, h .near)))
 

@@ -8,7 +8,7 @@ use native.Mathlib.Omega.{arith}
 use borrow.Author.Tests.{ltb-true}
 use lib.IntN.{ℤ, pos, natAbs, _-ℤ_, _*ℤ_}
 use Rattle.integers.specs.Integer.{plus, minus, modZ, floorZ}
-use Rattle.integers.proofs.Balance.{Tested, yes, no, test, abs-is, bal-sub, bal-scale, modZ-lt, floor-is}
+use Rattle.integers.proofs.Balance.{Decided, yes, no, test, abs-is, bal-sub, bal-scale, modZ-lt, floor-is}
 use Rattle.refusal.specs.declared.Refusal.{Refusal}
 use Rattle.refusal.specs.declared.Refusal.the-variants.{Value}
 use Rattle.reckon.specs.declared.speed.Speed.{Speed}
@@ -100,7 +100,7 @@ module _ (D : ℤ) (T F : ℕ) (v : ℤ) (h : speedByCount D T F ≡ Of v) where
   unfolding speedByCount
   speed-given = go (test (goodSpeed D T F))
     where
-      go : Tested (goodSpeed D T F) → (goodSpeed D T F ≡ true) × (v ≡ rounded (D *ℤ pos (1000 * F)) T)
+      go : Decided (goodSpeed D T F) → (goodSpeed D T F ≡ true) × (v ≡ rounded (D *ℤ pos (1000 * F)) T)
       go (no e) = absurd (unsped-not v Value (rw e at h))
       go (yes e) = (e, cc (rw e at h))
 

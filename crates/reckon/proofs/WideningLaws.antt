@@ -9,7 +9,7 @@ use lib.Dec.{ltb, leb, eqb}
 use lib.Pow.{pow-pos, pow-add}
 use lib.IntN.{ℤ, pos, _+ℤ_, _-ℤ_}
 use Rattle.integers.specs.Integer.{modZ}
-use Rattle.integers.proofs.Balance.{Tested, yes, no, test, eqZ, bal-add, bal-sub, mod-turns}
+use Rattle.integers.proofs.Balance.{Decided, yes, no, test, eqZ, bal-add, bal-sub, mod-turns}
 use Rattle.position.specs.Position.{inRange, isWord, positionOf, wordOf}
 use Rattle.position.proofs.PositionLaws.{range-no, position-in-range, bal-position, position-word}
 use Rattle.refusal.specs.declared.Refusal.the-variants.{Value, Half, Range}
@@ -95,7 +95,7 @@ module _ (turn b d : ℕ) where
     over : turn < 2 * d
     over = go (test (eqb (2 * d) turn))
       where
-        go : Tested (eqb (2 * d) turn) → turn < 2 * d
+        go : Decided (eqb (2 * d) turn) → turn < 2 * d
         go (yes e) = absurd (k (eqb-true (2 * d) turn e))
         go (no e) = let n = eqb-false (2 * d) turn e in omega arith
 
@@ -116,7 +116,7 @@ module _ (turn b d : ℕ) where
 pub word-range : (b : ℕ) → inRange (positionOf b) ≡ isWord b
 word-range b = go (test (leb 1 b)) (test (leb b (2 ^ 63 - 1)))
   where
-    go : Tested (leb 1 b) → Tested (leb b (2 ^ 63 - 1)) → inRange (positionOf b) ≡ isWord b
+    go : Decided (leb 1 b) → Decided (leb b (2 ^ 63 - 1)) → inRange (positionOf b) ≡ isWord b
     go (no e) t = rw e (range-no (positionOf b) (omega (arith, leb-false 1 b e, bal-position b)))
     go (yes e) (no f) = rw (e, f) (range-no (positionOf b) (omega (arith, leb-false b (2 ^ 63 - 1) f, bal-position b)))
     go (yes e) (yes f) = rw (e, f)

@@ -3,8 +3,8 @@ use mathlib.Core.Path.{_≡_, refl, sym, ap}
 use Rattle.refusal.proofs.RefusalLaws.{told-apart, above-zero}
 use Rattle.record.specs.declared.answer.Read.{Read}
 use Rattle.record.specs.declared.answer.Read.the-variants.{Accepted, Refused}
-use Rattle.record.specs.declared.answer.Checked.{Checked}
-use Rattle.record.specs.declared.answer.Checked.the-variants.{Accepted as Passed, Refused as Failed}
+use Rattle.record.specs.declared.answer.Tested.{Tested}
+use Rattle.record.specs.declared.answer.Tested.the-variants.{Accepted as Passed, Refused as Failed}
 use Rattle.record.specs.declared.answer.Written.{Written}
 use Rattle.record.specs.declared.answer.Written.the-variants.{Bytes, Refused as Unwritten}
 use Rattle.record.specs.Answer.{readNumber, readFound, readSaved, testedNumber, testedFound}
@@ -18,7 +18,7 @@ read-told (Refused r) (Accepted s) n f v = absurd (above-zero r n)
 read-told (Refused r) (Refused q) n f v = ap Refused (told-apart r q n f)
 
 -- HEADLINE: the number and the number found determine what a test answers.
-pub test-told : (a b : Checked) → testedNumber a ≡ testedNumber b → testedFound a ≡ testedFound b → a ≡ b
+pub test-told : (a b : Tested) → testedNumber a ≡ testedNumber b → testedFound a ≡ testedFound b → a ≡ b
 test-told Passed Passed n f = refl
 test-told Passed (Failed r) n f = absurd (above-zero r (sym n))
 test-told (Failed r) Passed n f = absurd (above-zero r n)

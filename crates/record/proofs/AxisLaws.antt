@@ -11,7 +11,7 @@ use lib.Seq.{drop-append-seam}
 use mir.Syntax.{w64}
 use mir.Val.{Fits, toZ, ofZ}
 use mir.Facts.{fits-ofZ, toZ-ofZ, ofZ-toZ}
-use Rattle.integers.proofs.Balance.{Tested, yes, no, test}
+use Rattle.integers.proofs.Balance.{Decided, yes, no, test}
 use Rattle.refusal.specs.declared.Refusal.{Refusal}
 use Rattle.refusal.specs.declared.Refusal.the-variants.{Value as VALUE, Record}
 use Rattle.axis.specs.Kind.{COUNTER, counterKind}
@@ -36,7 +36,7 @@ pub axis-long : (s : Saved) → length (axisBytes s) ≡ axisLength (s .config .
 unfolding axisBytes frontBytes settingBytes fieldBytes bytesOf
 axis-long s = go (test (counterKind (s .config .kind)))
   where
-    go : Tested (counterKind (s .config .kind)) → length (axisBytes s) ≡ axisLength (s .config .kind)
+    go : Decided (counterKind (s .config .kind)) → length (axisBytes s) ≡ axisLength (s .config .kind)
     go (yes k) = rw k
     go (no k) = rw k
 
@@ -171,7 +171,7 @@ axis-again s at c bits next b h =
     found : ℕ
     found = numberAt s (at + 3 + 1 + 3) 8
 
-    go : Tested (counterKind kind) →
+    go : Decided (counterKind kind) →
         cond (counterKind kind) (counterAt s place kind found) (sampledAt s place kind found) ≡ Said c bits next →
         Settings s place kind found c bits next
     go (yes k) e = counter-again s b place kind found c bits next k (rw k at e)

@@ -5,7 +5,7 @@ use mathlib.Core.List.{List}
 use Prim.Native.Nat.{ℕ, _+_}
 use lib.Dec.{T, eqb}
 use lib.ListN.{length}
-use Rattle.integers.proofs.Balance.{Tested, yes, no, test}
+use Rattle.integers.proofs.Balance.{Decided, yes, no, test}
 use Rattle.refusal.specs.declared.Refusal.{Refusal}
 use Rattle.refusal.specs.declared.Refusal.the-variants.{Value, Layout, Record}
 use Rattle.axis.specs.declared.config.Config.{Config}
@@ -117,8 +117,8 @@ judged : (s : List ℕ) → Judged s (readAs s)
 judged s =
     go (test (otherLayout s)) (test (nineStand s)) (test (knownKind (kindIn s))) (test (restStands s)) (test (withinLimits (saidIn s)))
   where
-    go : Tested (otherLayout s) → Tested (nineStand s) → Tested (knownKind (kindIn s)) → Tested (restStands s) →
-        Tested (withinLimits (saidIn s)) → Judged s (readAs s)
+    go : Decided (otherLayout s) → Decided (nineStand s) → Decided (knownKind (kindIn s)) → Decided (restStands s) →
+        Decided (withinLimits (saidIn s)) → Judged s (readAs s)
     go (yes l) _ _ _ _ = other-layout l (in-order s ∙ rw l)
     go (no l) (no n) _ _ _ = bad-nine l n (in-order s ∙ rw (l, n))
     go (no l) (yes n) (no k) _ _ = bad-kind n k (in-order s ∙ rw (l, n, k))

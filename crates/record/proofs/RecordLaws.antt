@@ -11,7 +11,7 @@ use lib.IntN.{negsuc}
 use lib.ListN.{length, take, drop}
 use lib.Seq.{sets, sets-eq}
 use Rattle.refusal.proofs.OutcomeLaws.{one}
-use Rattle.integers.proofs.Balance.{Tested, yes, no, test}
+use Rattle.integers.proofs.Balance.{Decided, yes, no, test}
 use Rattle.refusal.specs.declared.Refusal.{Refusal}
 use Rattle.refusal.specs.declared.Refusal.the-variants.{Room, Layout}
 use Rattle.position.specs.Position.{inRange}
@@ -20,8 +20,8 @@ use Rattle.axis.specs.Config.{goodConfig}
 use Rattle.record.specs.declared.answer.Saved.{Saved}
 use Rattle.record.specs.declared.answer.Read.{Read}
 use Rattle.record.specs.declared.answer.Read.the-variants.{Accepted, Refused}
-use Rattle.record.specs.declared.answer.Checked.{Checked}
-use Rattle.record.specs.declared.answer.Checked.the-variants.{Accepted as Passes, Refused as Fails}
+use Rattle.record.specs.declared.answer.Tested.{Tested}
+use Rattle.record.specs.declared.answer.Tested.the-variants.{Accepted as Passes, Refused as Fails}
 use Rattle.record.specs.declared.answer.Written.{Written}
 use Rattle.record.specs.declared.answer.Written.the-variants.{Refused as Unwritten}
 use Rattle.tagged.specs.Bytes.{AllBytes, numberIn, numberFrom, bytesOf, starts}
@@ -55,7 +55,7 @@ pub written-shape : (s : Saved) → Shaped (s .config .kind) (recordOf s)
 unfolding recordOf
 written-shape s = record { opens = refl; long = record-long s ∙ go (test (counterKind (s .config .kind))) }
   where
-    go : Tested (counterKind (s .config .kind)) → 8 + axisLength (s .config .kind) ≡ cond (counterKind (s .config .kind)) 27 34
+    go : Decided (counterKind (s .config .kind)) → 8 + axisLength (s .config .kind) ≡ cond (counterKind (s .config .kind)) 27 34
     go (yes k) = rw k
     go (no k) = rw k
 
@@ -105,7 +105,7 @@ other-opening n rest h other = rw (le-leb 5 (length s) (omega arith)) (go (test 
     s : List ℕ
     s = fieldBytes layoutTag 2 n ++ rest
 
-    go : Tested (starts opening s) → not (starts opening s) ≡ true
+    go : Decided (starts opening s) → not (starts opening s) ≡ true
     go (no e) = rw e
     go (yes e) = absurd (other (sym (number-back 2 n h) ∙ ap (λ (l : List ℕ). numberIn (take 2 (drop 3 l))) (starts-is opening s e)))
 
@@ -145,7 +145,7 @@ pub refused-kept : (b : List ℕ) (s : Saved) (r : Refusal) → savedAs (length 
 unfolding savedAs written
 refused-kept b s r h = go (test (withinLimits s)) (test (leb (length (recordOf s)) (length b)))
   where
-    go : Tested (withinLimits s) → Tested (leb (length (recordOf s)) (length b)) →
+    go : Decided (withinLimits s) → Decided (leb (length (recordOf s)) (length b)) →
         cond (withinLimits s && leb (length (recordOf s)) (length b)) (sets b 0 (recordOf s)) b ≡ b
     go (no w) _ = rw w
     go (yes w) (no l) = rw (w, l)
@@ -158,7 +158,7 @@ pub read-one : (s : List ℕ) (q r : Read) → q ≡ readAs s → r ≡ readAs s
 read-one s q r = one
 
 -- HEADLINE: testing a slice has one outcome.
-pub test-one : (s : List ℕ) (q r : Checked) → q ≡ testedAs s → r ≡ testedAs s → q ≡ r
+pub test-one : (s : List ℕ) (q r : Tested) → q ≡ testedAs s → r ≡ testedAs s → q ≡ r
 test-one s q r = one
 
 -- HEADLINE: saving into a buffer has one outcome, answer and buffer.

@@ -5,8 +5,8 @@ use Rattle.refusal.specs.Refusal.{numberOf, foundIn}
 use Rattle.record.specs.declared.answer.Saved.{Saved}
 use Rattle.record.specs.declared.answer.Read.{Read}
 use Rattle.record.specs.declared.answer.Read.the-variants.{Accepted, Refused}
-use Rattle.record.specs.declared.answer.Checked.{Checked}
-use Rattle.record.specs.declared.answer.Checked.the-variants.{Accepted as Passed, Refused as Failed}
+use Rattle.record.specs.declared.answer.Tested.{Tested}
+use Rattle.record.specs.declared.answer.Tested.the-variants.{Accepted as Passed, Refused as Failed}
 use Rattle.record.specs.declared.answer.Written.{Written}
 use Rattle.record.specs.declared.answer.Written.the-variants.{Bytes, Refused as Unwritten}
 
@@ -26,17 +26,17 @@ readSaved (Accepted s) = s
 readSaved (Refused r) = record { config = record { kind = 0; depth = 0; width = 0; turn = 0 }; position = pos 0 }
 
 -- A test accepts what a reading accepts, and refuses as it does.
-abbrev pub testedOf : Read → Checked
+abbrev pub testedOf : Read → Tested
 testedOf (Accepted s) = Passed
 testedOf (Refused r) = Failed r
 
 -- A test's number is 0 where the record is accepted, else its refusal's.
-abbrev pub testedNumber : Checked → ℕ
+abbrev pub testedNumber : Tested → ℕ
 testedNumber Passed = 0
 testedNumber (Failed r) = numberOf r
 
 -- The layout number that a test found, 0 where it refused for no layout.
-abbrev pub testedFound : Checked → ℕ
+abbrev pub testedFound : Tested → ℕ
 testedFound Passed = 0
 testedFound (Failed r) = foundIn r
 

@@ -21,7 +21,7 @@ use Rattle.tagged.specs.Field.{fieldAt, fieldBytes}
 use Rattle.record.specs.declared.answer.Saved.{Saved}
 use Rattle.record.specs.declared.answer.Read.{Read}
 use Rattle.record.specs.declared.answer.Read.the-variants.{Accepted, Refused}
-use Rattle.record.specs.declared.answer.Checked.{Checked}
+use Rattle.record.specs.declared.answer.Tested.{Tested}
 use Rattle.record.specs.declared.answer.Written.{Written}
 use Rattle.record.specs.declared.answer.Written.the-variants.{Bytes, Refused as Unwritten}
 use Rattle.record.specs.declared.axis_fields.AxisRead.{AxisRead}
@@ -75,7 +75,7 @@ readAs s =
     endedAt s at c bits))
 
 -- What a test answers to a slice.
-abbrev pub testedAs : List ℕ → Checked
+abbrev pub testedAs : List ℕ → Tested
 testedAs s = testedOf (readAs s)
 
 -- ---- writing

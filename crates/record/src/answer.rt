@@ -15,7 +15,7 @@ pub enum Read {
 }
 
 // What a test says of a record.
-pub enum Checked {
+pub enum Tested {
     Accepted,
     Refused(Refusal),
 }

@@ -1,9 +1,9 @@
 // The reader and the test of a record.
 ghost use mathlib.Core.Path.{_≡_};
 ghost use Rattle.record.specs.Record.{layoutRefusal, endedAt, readAs, testedAs};
-use crate::answer::Checked;
 use crate::answer::Read;
 use crate::answer::Saved;
+use crate::answer::Tested;
 use crate::axis_fields::AxisRead;
 use crate::axis_fields::read_axis;
 use crate::limits::is_within;
@@ -60,11 +60,11 @@ pub fn read(slice: &[u8]) -> Read
 }
 
 // Whether the reader accepts a record, or its refusal.
-pub fn test(slice: &[u8]) -> Checked
+pub fn test(slice: &[u8]) -> Tested
     ensures { λ r. ⌜ r ≡ testedAs (now (slice .entry)) ⌝ }
 {
     match read(slice) {
-        Read::Accepted(_) => Checked::Accepted,
-        Read::Refused(r) => Checked::Refused(r),
+        Read::Accepted(_) => Tested::Accepted,
+        Read::Refused(r) => Tested::Refused(r),
     }
 }

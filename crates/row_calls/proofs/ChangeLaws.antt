@@ -6,7 +6,7 @@ use mathlib.Core.Logic.{⊎-elim}
 use mathlib.Core.Bool.{true, false, _&&_, and-false, true≢false}
 use lib.Dec.{lit<}
 use lib.IntN.{ℤ}
-use Rattle.integers.proofs.Balance.{Tested, yes, no, test}
+use Rattle.integers.proofs.Balance.{Decided, yes, no, test}
 use Rattle.position.specs.Position.{inRange, Word, wordOf}
 use Rattle.position.proofs.PositionLaws.{word-holds}
 use Rattle.refusal.specs.declared.Refusal.{Refusal}
@@ -109,7 +109,7 @@ placed : (p : ℤ) (r q : Row) → placeRow p r ≡ To q → (inRange p ≡ true
 unfolding placeRow
 placed p r q e = go (test (inRange p))
   where
-    go : Tested (inRange p) → (inRange p ≡ true) × (To (rowOf (presetAxis p (axisOf r))) ≡ To q)
+    go : Decided (inRange p) → (inRange p ≡ true) × (To (rowOf (presetAxis p (axisOf r))) ≡ To q)
     go (yes i) = (i, rw i at e)
     go (no i) = absurd (kept-not q VALUE (rw i at e))
 

@@ -5,7 +5,7 @@ use mathlib.Core.Path.{_≡_, refl, sym}
 use mathlib.Core.Bool.{true, false, cond}
 use mathlib.Core.Logic.{_↔_, ⊎-elim}
 use lib.Dec.{lit<}
-use Rattle.integers.proofs.Balance.{Tested, yes, no, test}
+use Rattle.integers.proofs.Balance.{Decided, yes, no, test}
 use Rattle.position.specs.Position.{Word}
 use Rattle.position.proofs.PositionLaws.{origin-holds}
 use Rattle.refusal.specs.declared.Refusal.the-variants.{Value as VALUE}
@@ -57,7 +57,7 @@ pub setup-makes : (k d v n : ℕ) (r q : Row) → setupRow k d v n r ≡ To q �
 unfolding setupRow
 setup-makes k d v n r q e = go (test (goodConfig k d v n))
   where
-    go : Tested (goodConfig k d v n) → Holds q (cond (sampledKind k) Sampled Counter) (fresh (configOf k d v n))
+    go : Decided (goodConfig k d v n) → Holds q (cond (sampledKind k) Sampled Counter) (fresh (configOf k d v n))
     go (yes g) = to-one (rw g at e) (config-holds (configOf k d v n) (2 ^ 62) g origin-holds)
     go (no g) = absurd (kept-not q VALUE (rw g at e))
 
@@ -66,7 +66,7 @@ pub setup-refused : (k d v n : ℕ) (r : Row) → (setupRow k d v n r ≡ Kept V
 unfolding setupRow
 setup-refused k d v n r = (λ e. go (test (goodConfig k d v n)) e, λ g. rw g)
   where
-    go : Tested (goodConfig k d v n) → setupRow k d v n r ≡ Kept VALUE → goodConfig k d v n ≡ false
+    go : Decided (goodConfig k d v n) → setupRow k d v n r ≡ Kept VALUE → goodConfig k d v n ≡ false
     go (yes g) e = absurd (kept-not (rowOf (fresh (configOf k d v n))) VALUE (sym (rw g at e)))
     go (no g) e = g
 

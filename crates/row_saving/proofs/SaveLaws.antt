@@ -9,7 +9,7 @@ use lib.Dec.{leb, lit<}
 use lib.ListN.{length, take, drop}
 use lib.Seq.{take-append-seam}
 use borrow.Author.Tests.{le-leb, leb-true}
-use Rattle.integers.proofs.Balance.{Tested, yes, no, test}
+use Rattle.integers.proofs.Balance.{Decided, yes, no, test}
 use Rattle.position.specs.Position.{wordOf}
 use Rattle.position.proofs.PositionLaws.{origin-holds, word-holds, position-in-range, position-word, word-position}
 use Rattle.refusal.specs.declared.Refusal.{Refusal}
@@ -131,7 +131,7 @@ saved-live room n r e =
 saved-length : (room n : ℕ) (r : Row) (l : Live r) → saveRow room r ≡ Bytes n → (length (bytes r) ≡ n) × (n ≤ room)
 saved-length room n r l e = go (test (leb (length (bytes r)) room)) (sym (save-answers r l room) ∙ e)
   where
-    go : Tested (leb (length (bytes r)) room) → cond (leb (length (bytes r)) room) (Bytes (length (bytes r))) (Unwritten ROOM) ≡ Bytes n →
+    go : Decided (leb (length (bytes r)) room) → cond (leb (length (bytes r)) room) (Bytes (length (bytes r))) (Unwritten ROOM) ≡ Bytes n →
         (length (bytes r) ≡ n) × (n ≤ room)
     go (yes h) k =
         let m : Bytes (length (bytes r)) ≡ Bytes n = rw h at k in

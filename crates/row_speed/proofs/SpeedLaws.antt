@@ -7,7 +7,7 @@ use mathlib.Core.Bool.{Bool, true, false, cond}
 use lib.Dec.{eqb, lit<}
 use lib.IntN.{ℤ, pos, negsuc, natAbs, _-ℤ_, _*ℤ_}
 use borrow.Author.Tests.{eq-eqb, ne-eqb, le-leb}
-use Rattle.integers.proofs.Balance.{Tested, yes, no, test}
+use Rattle.integers.proofs.Balance.{Decided, yes, no, test}
 use Rattle.refusal.specs.declared.Refusal.the-variants.{Kind as KIND, Value as VALUE, NoPeriod as NO-PERIOD}
 use Rattle.reckon.specs.Rounding.{rounded}
 use Rattle.reckon.specs.Speed.{speedRefusal, goodCount, goodSamples, goodRate, goodSpeed, speedByCount}
@@ -81,7 +81,7 @@ count-past : (D : ℤ) (T F : ℕ) → Past (speedRefusal (speedByCount D T F))
 unfolding Past speedByCount
 count-past D T F = go (test (goodSpeed D T F))
   where
-    go : Tested (goodSpeed D T F) → Past (speedRefusal (speedByCount D T F))
+    go : Decided (goodSpeed D T F) → Past (speedRefusal (speedByCount D T F))
     go (yes g) = rw g (inl refl)
     go (no g) = rw g (inr (lit< tt))
 
@@ -89,7 +89,7 @@ pub speed-past : (rate : ℕ) (p : Pace) → Past (speedRefusal (speedOf rate p)
 unfolding Past speedOf
 speed-past rate p = go (test (goodRate rate)) (test (eqb (p .period) 0))
   where
-    go : Tested (goodRate rate) → Tested (eqb (p .period) 0) → Past (speedRefusal (speedOf rate p))
+    go : Decided (goodRate rate) → Decided (eqb (p .period) 0) → Past (speedRefusal (speedOf rate p))
     go (no g) t = rw g (inr (lit< tt))
     go (yes g) (yes z) = rw (g, z) (inr (lit< tt))
     go (yes g) (no z) = rw (g, z) (count-past (signOf (p .direction)) (spanOf p) rate)
@@ -113,7 +113,7 @@ speed-from rate r v e =
     (λ h. absurd (unsped-not v KIND (h .1)))
     (live Refused (speedOf rate (axisOf r .pace)) (Refused KIND) (Of v) (unsped-not v) (statusOf r) e)
   where
-    go : Tested (goodRate rate) → Tested (eqb (axisOf r .pace .period) 0) → speedOf rate (axisOf r .pace) ≡ Of v →
+    go : Decided (goodRate rate) → Decided (eqb (axisOf r .pace .period) 0) → speedOf rate (axisOf r .pace) ≡ Of v →
         speedByCount (signOf (axisOf r .pace .direction)) (spanOf (axisOf r .pace)) rate ≡ Of v
     go (no g) t h = absurd (unsped-not v VALUE (rw g at h))
     go (yes g) (yes z) h = absurd (unsped-not v NO-PERIOD (rw (g, z) at h))

@@ -12,7 +12,7 @@ use lib.Arith.{digits-div, digits-mod}
 use lib.Dec.{eqb}
 use lib.ListN.{length, take, drop, getD, length-append, length-drop, length-take}
 use lib.Seq.{take-suc, getD-drop}
-use Rattle.integers.proofs.Balance.{Tested, yes, no, test}
+use Rattle.integers.proofs.Balance.{Decided, yes, no, test}
 use Rattle.tagged.specs.Bytes.{AllBytes, numberFrom, numberIn, numberAt, bytesOf, starts}
 
 -- ---- parts of a list of bytes
@@ -90,7 +90,7 @@ starts-is [] s h = refl
 starts-is (x ∷ xs) [] h = let z : _≡_ {A = ℕ} 0 1 = cc in absurd (omega arith)
 starts-is (x ∷ xs) (y ∷ ys) h = go (test (eqb x y)) (starts-is xs ys)
   where
-    go : Tested (eqb x y) → (starts xs ys ≡ true → ys ≡ xs ++ drop (length xs) ys) → y ∷ ys ≡ x ∷ (xs ++ drop (length xs) ys)
+    go : Decided (eqb x y) → (starts xs ys ≡ true → ys ≡ xs ++ drop (length xs) ys) → y ∷ ys ≡ x ∷ (xs ++ drop (length xs) ys)
     go (yes e) f = rw (← (eqb-true x y e)) (ap (λ (r : List ℕ). x ∷ r) (f (rw e at h)))
     go (no e) f = let k = rw e at h in let z : _≡_ {A = ℕ} 0 1 = cc in absurd (omega arith)
 

@@ -10,7 +10,7 @@ use borrow.Author.Tests.{eqb-true, eq-eqb, le-leb, lt-leb, leb-true, leb-false}
 use lib.Dec.{eqb, leb}
 use lib.ListN.{length, take, drop, getD, take-append-drop, length-append, length-drop}
 use lib.Seq.{drop-cons, drop-drop, drop-append-seam, take-append-seam, length-take-le, getD-drop}
-use Rattle.integers.proofs.Balance.{Tested, yes, no, test}
+use Rattle.integers.proofs.Balance.{Decided, yes, no, test}
 use Rattle.tagged.specs.declared.field.Head.the-variants.{Of, Cut}
 use Rattle.tagged.specs.declared.field.Field.the-variants.{Value, Bad}
 use Rattle.tagged.specs.Bytes.{AllBytes, numberIn, numberAt, bytesOf}
@@ -33,7 +33,7 @@ module _ (s : List ℕ) (at : ℕ) where
   unfolding headAt
   cut-told h = go (test (leb (at + 3) (length s)))
     where
-      go : Tested (leb (at + 3) (length s)) → length s < at + 3
+      go : Decided (leb (at + 3) (length s)) → length s < at + 3
       go (yes e) = let k = rw e at h in let z : _≡_ {A = ℕ} 0 1 = cc in absurd (omega arith)
       go (no e) = leb-false (at + 3) (length s) e
 
@@ -42,7 +42,7 @@ module _ (s : List ℕ) (at : ℕ) where
   unfolding headAt
   head-told {tag} {n} h = go (test (leb (at + 3) (length s)))
     where
-      go : Tested (leb (at + 3) (length s)) → (at + 3 ≤ length s) × (getD s at 0 ≡ tag) × (numberAt s (at + 1) 2 ≡ n)
+      go : Decided (leb (at + 3) (length s)) → (at + 3 ≤ length s) × (getD s at 0 ≡ tag) × (numberAt s (at + 1) 2 ≡ n)
       go (yes e) = let k = rw e at h in (leb-true (at + 3) (length s) e, cc, cc)
       go (no e) = let k = rw e at h in let z : _≡_ {A = ℕ} 0 1 = cc in absurd (omega arith)
 
@@ -70,7 +70,7 @@ module _ (s : List ℕ) (at tag n : ℕ) {v next : ℕ} where
   unfolding fieldAt
   field-told h = go (test (standsAt s at tag n))
     where
-      go : Tested (standsAt s at tag n) → (standsAt s at tag n ≡ true) × (numberAt s (at + 3) n ≡ v) × (at + 3 + n ≡ next)
+      go : Decided (standsAt s at tag n) → (standsAt s at tag n ≡ true) × (numberAt s (at + 3) n ≡ v) × (at + 3 + n ≡ next)
       go (yes e) = let k = rw e at h in (e, cc, cc)
       go (no e) = let k = rw e at h in let z : _≡_ {A = ℕ} 0 1 = cc in absurd (omega arith)
 

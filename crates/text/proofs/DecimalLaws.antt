@@ -7,7 +7,7 @@ use mathlib.Core.List.{List, [], _∷_, _++_}
 use lib.Dec.{ltb}
 use lib.ListN.{length, getD, length-append, List·getD-append}
 use borrow.Author.Tests.{lt-ltb, le-ltb, ltb-true, ltb-false}
-use Rattle.integers.proofs.Balance.{Tested, yes, no, test}
+use Rattle.integers.proofs.Balance.{Decided, yes, no, test}
 use Rattle.text.specs.Text.{ZERO, digitsIn, decimal, valueFrom}
 
 -- A number below ten is one digit.
@@ -26,7 +26,8 @@ digits-enough zero j n h l = absurd (omega arith)
 digits-enough (suc k) zero n h l = absurd (omega arith)
 digits-enough (suc k) (suc j) n h l = go (test (ltb n 10)) (digits-enough k j (n / 10))
   where
-    go : Tested (ltb n 10) → (n / 10 < k → n / 10 < j → digitsIn k (n / 10) ≡ digitsIn j (n / 10)) → digitsIn (suc k) n ≡ digitsIn (suc j) n
+    go : Decided (ltb n 10) → (n / 10 < k → n / 10 < j → digitsIn k (n / 10) ≡ digitsIn j (n / 10)) →
+        digitsIn (suc k) n ≡ digitsIn (suc j) n
     go (yes e) f = digit-one k n (ltb-true n 10 e) ∙ sym (digit-one j n (ltb-true n 10 e))
     go (no e) f =
         let m : 10 ≤ n = ltb-false n 10 e in
@@ -50,7 +51,7 @@ module _ (P : ℕ → Type 0) (one : (n : ℕ) → n < 10 → P n) (rest : (n : 
   by-digits-below zero n h = absurd (omega arith)
   by-digits-below (suc k) n h = go (test (ltb n 10)) (by-digits-below k (n / 10))
     where
-      go : Tested (ltb n 10) → (n / 10 < k → P (n / 10)) → P n
+      go : Decided (ltb n 10) → (n / 10 < k → P (n / 10)) → P n
       go (yes e) f = one n (ltb-true n 10 e)
       go (no e) f = let l : 10 ≤ n = ltb-false n 10 e in rest n l (f (omega arith))
 
@@ -68,7 +69,7 @@ pub decimal-length : (k n : ℕ) → n < 10 ^ suc k → length (decimal n) ≤ s
 decimal-length zero n h = rw (decimal-one n h) (omega arith)
 decimal-length (suc k) n h = go (test (ltb n 10)) (decimal-length k (n / 10))
   where
-    go : Tested (ltb n 10) → (n / 10 < 10 ^ suc k → length (decimal (n / 10)) ≤ suc k) → length (decimal n) ≤ suc (suc k)
+    go : Decided (ltb n 10) → (n / 10 < 10 ^ suc k → length (decimal (n / 10)) ≤ suc k) → length (decimal n) ≤ suc (suc k)
     go (yes e) f = rw (decimal-one n (ltb-true n 10 e)) (omega arith)
     go (no e) f =
         let l : 10 ≤ n = ltb-false n 10 e in
