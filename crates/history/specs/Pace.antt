@@ -15,7 +15,7 @@ directionOf p (Forward ∷ ms) = 1
 directionOf p (Back ∷ ms) = 2
 directionOf p (Double ∷ ms) = 0
 
--- The gap: the samples since the latest entry off zero, counted on from the starting one age if there was none.
+-- The gap: the samples since the latest entry off zero, counted on from the starting age if there was none.
 unfoldable pub gapOf : Pace → List Move → ℕ
 gapOf p [] = p .age
 gapOf p (Still ∷ ms) = gapOf p ms + 1
