@@ -10,11 +10,14 @@ pub struct Config {
     pub turn: u32,
 }
 
+// Counts per turn are below this number, and so is the word of a row that holds them.
+pub const TURN_END: u64 = 0x1_0000_0000;
+
 // Whether four plain numbers are a sampled axis's configuration.
 pub fn is_sampled(kind: u64, depth: u64, width: u64, turn: u64) -> bool
     ensures { λ r. ⌜ r ≡ sampledConfig kind depth width turn ⌝ }
 {
-    Kind::is_sampled(kind) & (1 <= depth) & (depth <= 8) & (width == 0) & (turn < 4294967296)
+    Kind::is_sampled(kind) & (1 <= depth) & (depth <= 8) & (width == 0) & (turn < TURN_END)
 }
 
 // Whether four plain numbers are a narrow counter's configuration.

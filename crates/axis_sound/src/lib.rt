@@ -12,6 +12,9 @@ use axis::row::Pace;
 use axis::row::Row;
 use axis_packing::unpack;
 
+// The longest period.
+const LONGEST: u32 = 0xffff_fffe;
+
 // What a row is.
 pub enum Status {
     Empty,
@@ -41,7 +44,7 @@ fn is_plain(r: Row) -> bool
     let w3 = r.w3;
     let low = fields::field(w1, 31, 1);
     let high = fields::field(w1, 50, 14);
-    position::is_word(r.w0) & (low == 0) & (high == 0) & (w3 < 4294967296)
+    position::is_word(r.w0) & (low == 0) & (high == 0) & (w3 < config::TURN_END)
 }
 
 // An axis is primed, or it waits: bits 16 to 63 of its row's word 1, which w1 is, are 0, and so are age and period.
@@ -81,7 +84,7 @@ fn is_paced(p: Pace) -> bool
     if p.direction == 0 {
         return p.period == 0;
     }
-    (p.direction != 3) & (p.period <= 4294967294)
+    (p.direction != 3) & (p.period <= LONGEST)
 }
 
 // What a sampled row has whatever its axis did last: a plain row, a sampled configuration, short runs, and ARMED and HOMED not both.

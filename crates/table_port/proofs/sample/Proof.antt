@@ -1,3 +1,4 @@
+-- A port sample goes through the rows: with k of them done, the table and the masks are those of the first k.
 use Prim.Native.Nat.{ℕ, _+_, _-_, _*_, _≤_, _<_}
 use native.Mathlib.Omega.{arith}
 use mathlib.Core.Path.{_≡_, refl, sym, ap, _∙_}
