@@ -1,7 +1,7 @@
 -- What a row's status gives to the calls: the words that they read, and an axis that packs again.
 use Prim.Native.Nat.{ℕ, _<_, _^_}
 use native.Mathlib.Omega.{arith}
-use mathlib.Core.Path.{_≡_, refl, ap}
+use mathlib.Core.Path.{_≡_, refl, sym, ap}
 use mathlib.Core.Logic.{_⊎_, inl, inr}
 use mathlib.Core.Bool.{Bool, true, false, cond}
 use lib.IntN.{ℤ}
@@ -11,15 +11,18 @@ use Rattle.integers.proofs.Machine.{back, fits-size}
 use Rattle.position.specs.Position.{inRange, Word}
 use Rattle.position.proofs.PositionLaws.{range-is}
 use Rattle.refusal.specs.declared.Refusal.{Refusal}
-use Rattle.refusal.specs.declared.Refusal.the-variants.{Broken as BROKEN, Empty as EMPTY}
-use Rattle.axis.specs.Row.{axisOf, Narrow}
-use Rattle.axis_sound.specs.Sound.{statusOf}
+use Rattle.refusal.specs.declared.Refusal.the-variants.{Broken as BROKEN, Empty as EMPTY, Kind as KIND}
+use Rattle.axis.specs.Row.{axisOf, rowOf, Narrow}
+use Rattle.axis_sound.specs.Sound.{statusOf, lowRow}
 use Rattle.axis.specs.declared.row.Axis.{Axis}
 use Rattle.axis.specs.declared.row.Flags.{Flags}
 use Rattle.axis.specs.declared.row.Row.{Row}
 use Rattle.axis_sound.specs.declared.Status.{Status}
 use Rattle.axis_sound.specs.declared.Status.the-variants.{Empty, Sampled, Counter, Broken}
-use Rattle.axis_sound.proofs.SoundLaws.{sampled-gives, counter-gives}
+use Rattle.axis_sound.specs.declared.Opened.{Opened}
+use Rattle.axis_sound.proofs.SoundLaws.{sampled-gives, counter-gives, opened-sampled}
+use Rattle.row_calls.specs.declared.answer.Changed.{Changed}
+use Rattle.row_calls.specs.declared.answer.Changed.the-variants.{To, Kept}
 use Rattle.row_calls.specs.Change.{changed}
 use Rattle.row_calls.specs.Calls.{byStatus}
 
@@ -65,3 +68,17 @@ made-live q false e = inr e
 pub either-kind : {A : Type 0} (refuse : Refusal → A) (x : A) (r : Row) → Live r → byStatus refuse x x (statusOf r) ≡ x
 either-kind refuse x r (inl e) = ap (byStatus refuse x x) e
 either-kind refuse x r (inr e) = ap (byStatus refuse x x) e
+
+-- A call on sampled rows only, which makes f of the axis there, says of an opened row what it says of the row.
+pub sampled-makes : (f : Axis → Axis) (r : Row) (o : Opened) → (o .status ≡ statusOf r) × (o .axis ≡ axisOf (lowRow r)) →
+    byStatus Kept (To (rowOf (f (o .axis)))) (Kept KIND) (o .status) ≡ byStatus Kept (To (rowOf (f (axisOf r)))) (Kept KIND) (statusOf r)
+sampled-makes f r o h = go (o .status) refl
+  where
+    says : Axis → Status → Changed
+    says a s = byStatus Kept (To (rowOf (f a))) (Kept KIND) s
+
+    go : (s : Status) → o .status ≡ s → says (o .axis) (o .status) ≡ says (axisOf r) (statusOf r)
+    go Sampled e = let g = opened-sampled r o h e in rw (e, g .0) (ap (λ (a : Axis). To (rowOf (f a))) (g .1))
+    go Broken e = rw (sym (h .0), e)
+    go Empty e = rw (sym (h .0), e)
+    go Counter e = rw (sym (h .0), e)

@@ -1,7 +1,7 @@
 // Preset, arm and acknowledge: the row is opened, its axis changed, and packed again.
 ghost use mathlib.Core.Path.{_≡_};
-ghost use Rattle.axis.specs.Row.{Narrow};
-ghost use Rattle.row_calls.specs.Calls.{placeAxis, presetRow, armRow, acknowledgeRow};
+ghost use Rattle.axis.specs.Row.{rowOf, Narrow};
+ghost use Rattle.row_calls.specs.Calls.{byStatus, placeAxis, presetRow, armRow, acknowledgeRow};
 use crate::answer::Changed;
 use axis::row::Axis;
 use axis::row::Row;
@@ -40,24 +40,29 @@ pub fn preset(r: Row, position: i64) -> Changed
     }
 }
 
+// What a call on sampled rows only says of a row: its refusals by the row's status, or the axis that it makes there, packed.
+fn on_sampled(status: Status, made: Axis) -> Changed
+    requires { ⌜ Narrow made ⌝ }
+    ensures { λ c. ⌜ c ≡ byStatus Changed.Kept (Changed.To (rowOf made)) (Changed.Kept Refusal.Kind) status ⌝ }
+{
+    match status {
+        Status::Broken => Changed::Kept(Refusal::Broken),
+        Status::Empty => Changed::Kept(Refusal::Empty),
+        Status::Counter => Changed::Kept(Refusal::Kind),
+        Status::Sampled => Changed::To(pack(made)),
+    }
+}
+
 // Arm: the next index rise is to home.
 pub fn arm(r: Row) -> Changed
     ensures { λ c. ⌜ c ≡ armRow r ⌝ }
 {
     let opened = open(r);
     let status = opened.status;
-    let axis = opened.axis;
-    match status {
-        Status::Broken => Changed::Kept(Refusal::Broken),
-        Status::Empty => Changed::Kept(Refusal::Empty),
-        Status::Counter => Changed::Kept(Refusal::Kind),
-        Status::Sampled => {
-            let mut armed = axis;
-            armed.flags.armed = true;
-            armed.flags.homed = false;
-            Changed::To(pack(armed))
-        }
-    }
+    let mut armed = opened.axis;
+    armed.flags.armed = true;
+    armed.flags.homed = false;
+    on_sampled(status, armed)
 }
 
 // Acknowledge: doubles and INDEX have been seen.
@@ -66,16 +71,8 @@ pub fn acknowledge(r: Row) -> Changed
 {
     let opened = open(r);
     let status = opened.status;
-    let axis = opened.axis;
-    match status {
-        Status::Broken => Changed::Kept(Refusal::Broken),
-        Status::Empty => Changed::Kept(Refusal::Empty),
-        Status::Counter => Changed::Kept(Refusal::Kind),
-        Status::Sampled => {
-            let mut seen = axis;
-            seen.flags.index = false;
-            seen.doubles = 0;
-            Changed::To(pack(seen))
-        }
-    }
+    let mut seen = opened.axis;
+    seen.flags.index = false;
+    seen.doubles = 0;
+    on_sampled(status, seen)
 }
