@@ -31,7 +31,7 @@ use Rattle.row_calls.proofs.ChangeLaws.{counter-moved, counter-holds, to-one, k
 use Rattle.row_calls.proofs.ReasonLaws.{Past, counters-only}
 use Rattle.row_counter.specs.Reading.{readAxis, readingOf, readingRow, storedRow, readRow}
 
--- ---- reasons
+-- ---- reasons, before all else: an answer with VALUE before KIND is refused here
 
 pub reading-past : (w : ℕ) (W : ℤ) (x : ℕ) → Past (refusalIn (widened w W x))
 unfolding Past

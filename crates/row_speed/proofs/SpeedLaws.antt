@@ -75,7 +75,7 @@ module _ (rate : ℕ) (r : Row) (sampled : statusOf r ≡ Sampled) where
       let s = sampled-gives r sampled .pace in
       one-or-two (pace .direction) (s .direction) (λ z. let idle : ⊥ = omega (arith, s .resting z) in idle)
 
--- ---- reasons
+-- ---- reasons, before what a speed was reckoned from: an answer with VALUE before KIND is refused here
 
 count-past : (D : ℤ) (T F : ℕ) → Past (speedRefusal (speedByCount D T F))
 unfolding Past speedByCount

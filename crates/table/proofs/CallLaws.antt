@@ -65,7 +65,8 @@ module _ (t : List ℕ) (k : ℕ) (b : List ℕ) where
 
 -- ---- the named row changes, and no other
 
--- The named row after a call that made another, which was there to be replaced.
+-- The named row after a call that made another, which was there to be replaced. It stands before the laws of what a call spares, since a
+-- call that writes nothing spares all and is refused here.
 pub replaced : (rule : Row → Changed) (t : List ℕ) (k : ℕ) (r : Row) → ruled rule t k ≡ To r →
     (k < axesIn (length t)) × (rule (rowAt t k) ≡ To r) × (rowAt (tableAfter t k (To r)) k ≡ r)
 unfolding tableAfter

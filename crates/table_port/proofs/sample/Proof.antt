@@ -25,6 +25,7 @@ Inv-loop table₀ port n masks₀ k₀ table masks k = Reached table₀ port n t
 abbrev μ-loop : tie.MeasureT-loop
 μ-loop table₀ port n masks₀ k₀ table masks k = n - k
 
+-- It stands before `returns`: a sample that does not refuse a table of no words is refused here.
 returns-2 : tie.Need-returns-2 Inv-loop μ-loop
 returns-2 c =
     let v = c .before .loop .inv in

@@ -8,6 +8,7 @@ returns : tie.Need-returns
 unfolding filterLine
 returns c = rw (c .if1 .taken)
 
+-- It stands before `returns-2`: a run that goes one sample past the depth is refused here.
 returns-3 : tie.Need-returns-3
 unfolding filterLine
 returns-3 c = rw (c .before .before .if1 .left, ne-eqb _ _ (c .if2 .left))

@@ -29,6 +29,7 @@ module _ (c : tie.After-size2) where
       position-above _ (rw b at (c .before .before .before .if1 .left))
       ∙ ap (λ (n : ℕ). lineOf positionLabel (decimal n)) (sym (rw b at (c .size2 .ensures)))
 
+-- It stands first: a line that drops the sign is refused here.
 returns : tie.Need-returns
 returns c = rw (line-below (c .before .before .before)) (c .before .before .put-line .ensures)
 
