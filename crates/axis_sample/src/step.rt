@@ -43,12 +43,21 @@ pub struct SteppedRow {
     pub broken: bool,
 }
 
-// An axis that is not primed, after a sample: the levels are taken as they are.
+// An axis that is not primed, after a sample: the levels are taken as they are. The flags are named one by one: with PRIMED set in place,
+// the compiled sample would carry the other four as one number.
 fn prime(x: Axis, s: Raw) -> Stepped
     ensures { λ r. ⌜ r ≡ outcome false x s ⌝ }
 {
+    let was = x.flags;
+    let flags = Flags {
+        primed: true,
+        armed: was.armed,
+        homed: was.homed,
+        range: was.range,
+        index: was.index,
+    };
     let mut axis = x;
-    axis.flags.primed = true;
+    axis.flags = flags;
     axis.levels = [s.a, s.b, s.z];
     axis.runs = [0, 0, 0];
     Stepped {
