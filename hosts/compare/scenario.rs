@@ -19,7 +19,7 @@ pub struct Scenario {
 impl Scenario {
     pub fn new(random: &mut Random) -> Scenario {
         let legal = !random.once_in(12);
-        let words = if legal { 4 * random.between(1, 16) } else { illegal_length(random) };
+        let words = if legal { 4 * random.between(1, MOST_AXES as u64) } else { illegal_length(random) };
         let mut memory = Memory::new(words as usize, || random.word());
         let flawed = random.pick(&[0, 0, 1, 4]);
         for row in memory.table_mut().chunks_mut(4) {
@@ -95,7 +95,7 @@ impl Scenario {
 
     fn sample(&mut self, random: &mut Random) -> u64 {
         if !self.quiet && random.once_in(8) {
-            self.port[random.below(16) as usize].change(random);
+            self.port[random.below(MOST_AXES as u64) as usize].change(random);
         }
         let unread = random.word() & 0x8888_8888_8888_8888;
         (0..).zip(&mut self.port).fold(unread, |port, (axis, lines)| port | lines.next(random) << (4 * axis))

@@ -16,7 +16,7 @@ use Rattle.axis.specs.declared.row.Flags.{Flags}
 use Rattle.axis.specs.declared.row.Pace.{Pace}
 use Rattle.axis.specs.declared.row.Row.{Row}
 use Rattle.axis.specs.Row.{layout, fieldsOf, axisOf, rowOf, word1Of, word2Of}
-use Rattle.axis.specs.Row.{waiting, Slim, Narrow, Held, Words, SameConfig, SameFlags, SamePace, SameAxis}
+use Rattle.axis.specs.Row.{waiting, ConfigFits, Narrow, Held, Words, SameConfig, SameFlags, SamePace, SameAxis}
 
 -- A number below 2 that is read as a flag is that bit again.
 bit-flag-at : (x : ℕ) → x < 2 → bitOf (eqb x 1) ≡ x
@@ -72,7 +72,7 @@ pub row-held : (r : Row) → Held (axisOf r)
 row-held r = record { narrow = omega arith; age = omega arith; period = omega arith; levels = refl; runs = refl }
 
 -- A row can hold an axis that waits, of a configuration within the widths of its fields.
-pub waiting-held : {c : Config} → Slim c → (w : ℕ) (armed : Bool) → Held (waiting c w armed)
+pub waiting-held : {c : Config} → ConfigFits c → (w : ℕ) (armed : Bool) → Held (waiting c w armed)
 waiting-held slim w armed = record {
   narrow = record { config = slim; runA = lit< tt; runB = lit< tt; runZ = lit< tt; doubles = lit< tt; direction = lit< tt };
   age = lit< tt;

@@ -12,9 +12,8 @@ use Rattle.axis.specs.declared.row.Flags.{Flags}
 use Rattle.axis.specs.declared.row.Pace.{Pace}
 use Rattle.axis.specs.declared.row.Row.{Row}
 
--- The widths of word 1's fields from bit 0 up: kind, depth, width, five flags, three levels, three runs, a bit that is 0, doubles,
--- direction, and
--- fourteen bits that are 0.
+-- The widths of word 1's fields from bit 0 up: kind, depth, width, five flags, three levels, three
+-- runs, a bit that is 0, doubles, direction, and fourteen bits that are 0.
 abbrev pub layout : List ℕ
 layout = 4 ∷ 4 ∷ 6 ∷ 1 ∷ 1 ∷ 1 ∷ 1 ∷ 1 ∷ 1 ∷ 1 ∷ 1 ∷ 3 ∷ 3 ∷ 3 ∷ 1 ∷ 16 ∷ 2 ∷ 14 ∷ []
 
@@ -98,14 +97,14 @@ abbrev pub blank : Axis
 blank = freshAt (record { kind = 0; depth = 0; width = 0; turn = 0 }) 0
 
 -- Each field of a configuration is within its width in word 1.
-pub record Slim (c : Config) : Type 0 where
+pub record ConfigFits (c : Config) : Type 0 where
   pub kind : c .kind < 2 ^ 4
   pub depth : c .depth < 2 ^ 4
   pub width : c .width < 2 ^ 6
 
 -- Each field of word 1 is within its width; the flags and the levels are so by themselves.
 pub record Narrow (a : Axis) : Type 0 where
-  pub config : Slim (a .config)
+  pub config : ConfigFits (a .config)
   pub runA : getD (a .runs) 0 0 < 2 ^ 3
   pub runB : getD (a .runs) 1 0 < 2 ^ 3
   pub runZ : getD (a .runs) 2 0 < 2 ^ 3

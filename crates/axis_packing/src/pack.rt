@@ -4,7 +4,7 @@ ghost use Prim.Native.Nat.{_+_, _*_, _<_, _^_};
 ghost use mathlib.Core.Bool.{false};
 ghost use lib.ListN.{getD};
 ghost use Rattle.fields.specs.Field.{bitOf};
-ghost use Rattle.axis.specs.Row.{word1Of, word2Of, rowOf, Slim, Narrow};
+ghost use Rattle.axis.specs.Row.{word1Of, word2Of, rowOf, ConfigFits, Narrow};
 use axis::config::Config;
 use axis::row::Axis;
 use axis::row::Flags;
@@ -12,7 +12,7 @@ use axis::row::Row;
 
 // Kind, depth and width: bits 0 to 13.
 fn config_word(c: Config) -> u64
-    requires { ⌜ Slim c ⌝ }
+    requires { ⌜ ConfigFits c ⌝ }
     ensures { λ w. ⌜ w ≡ c .kind + c .depth * 2 ^ 4 + c .width * 2 ^ 8 ⌝ }
 {
     fields::put(

@@ -17,7 +17,7 @@ use Rattle.axis_sound.specs.declared.Status.{Status}
 use Rattle.axis_sound.specs.declared.Status.the-variants.{Empty, Sampled, Counter, Broken}
 use Rattle.axis.specs.Kind.{X1, X2, X4, COUNTER, sampledKind}
 use Rattle.axis.specs.Config.{sampledConfig, counterConfig, goodConfig, SampledSetting, CounterSetting}
-use Rattle.axis.specs.Row.{configIn, axisOf, rowOf, word1Of, word2Of, emptyRow, waiting, freshAt, blank, Slim, Narrow, Held, Words}
+use Rattle.axis.specs.Row.{configIn, axisOf, rowOf, word1Of, word2Of, emptyRow, waiting, freshAt, blank, ConfigFits, Narrow, Held, Words}
 use Rattle.axis_sound.specs.Sound.{isEmpty, isPlain, isConsistent, isSampled, isCounter, statusOf, lowRow, passes}
 use Rattle.axis_sound.specs.Sound.{SampledAxis, counterOf, CounterAxis}
 use Rattle.axis.proofs.RowLaws.{same-config, row-held, waiting-held, row-again, back, comes-back}
@@ -106,7 +106,7 @@ kind-below k e = go (eqb k X1) (eqb k X2) (eqb k X4) refl refl refl e
     go false false false a b c h = absurd (true≢false (sym h))
 
 -- The configuration of a sampled axis is within its fields.
-setting-slim : {c : Config} → SampledSetting c → Slim c
+setting-slim : {c : Config} → SampledSetting c → ConfigFits c
 setting-slim {c} s = record { kind = kind-below (c .kind) (s .kind); depth = omega (arith, s .deep); width = omega (arith, s .width) }
 
 -- A row can hold a sampled axis.
@@ -131,7 +131,7 @@ sampled-held {a} s =
 -- A row can hold a counter.
 pub counter-held : {a : Axis} → CounterAxis a → Held a
 counter-held {a} c =
-    let slim : Slim (counterOf (a .config .width)) = record { kind = lit< tt; depth = lit< tt; width = omega (arith, c .wide) } in
+    let slim : ConfigFits (counterOf (a .config .width)) = record { kind = lit< tt; depth = lit< tt; width = omega (arith, c .wide) } in
     subst Held (sym (c .rest)) (waiting-held slim (a .word) false)
 
 -- The numbers of a counter are a counter's configuration.
@@ -160,7 +160,7 @@ good-cases c e = go (sampledConfig (c .kind) (c .depth) (c .width) (c .turn)) re
 pub setup-held : (c : Config) (w : ℕ) → goodConfig (c .kind) (c .depth) (c .width) (c .turn) ≡ true → Held (freshAt c w)
 setup-held c w e = waiting-held (⊎-elim setting-slim slim (good-cases c e)) w false
   where
-    slim : CounterSetting c → Slim c
+    slim : CounterSetting c → ConfigFits c
     slim s = record { kind = omega (arith, s .kind); depth = omega (arith, s .depth); width = omega (arith, s .wide) }
 
 -- An axis that waits, at a sampled configuration and any position, is a sampled axis.

@@ -33,7 +33,7 @@ use Rattle.row_counter.specs.Reading.{readAxis, readingOf, readingRow, storedRo
 use Rattle.row_calls.specs.Calls.{byStatus, leftBy, configOf, changeRow, setupRow, eraseRow, placeRow, presetRow, armRow, acknowledgeRow}
 use Rattle.row_saving.specs.Saving.{restoredBy, restoreRow}
 use Rattle.row_calls.specs.declared.answer.Changed.the-variants.{To, Kept}
-use Rattle.history.specs.Acts.{Act, act, sampled, Accepted as Agreed}
+use Rattle.history.specs.Acts.{Act, act, sampled, Allowed}
 use Rattle.history.specs.Acts.{preset as placed, arm as armed, acknowledge as acknowledged}
 use Rattle.history.specs.Told.{toldAxis}
 use Rattle.row_calls.specs.declared.apply.Change.{Change}
@@ -92,7 +92,7 @@ module _ {r : Row} (words : Words r) where
     counter-now e = ap axisOf (t .row) ∙ axis-counter (t .lawful) e
 
     -- One act more on a sampled row.
-    acts : (a : Act) → Agreed a → statusOf (p .start) ≡ Sampled → Tells r (acted p a) (rowOf (act (axisOf now) a))
+    acts : (a : Act) → Allowed a → statusOf (p .start) ≡ Sampled → Tells r (acted p a) (rowOf (act (axisOf now) a))
     unfolding toldRow toldBy
     acts a ok e =
         let l = t .lawful in
@@ -158,7 +158,7 @@ module _ {r : Row} (words : Words r) where
         (λ e. by-test (inRange z) _ _ _ (λ ok. rw (counter-preset (counter-gives now (status-now ∙ e)) z) (moves z ok e))))
 
     -- A call on sampled rows only.
-    sampled-only : (a : Act) → Agreed a →
+    sampled-only : (a : Act) → Allowed a →
         Tells r (bySort (acted p a) p (statusOf (p .start)) p)
         (leftBy now (byStatus Kept (To (rowOf (act (axisOf now) a))) (Kept KIND) (statusOf now)))
     sampled-only a ok =

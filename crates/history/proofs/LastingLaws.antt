@@ -21,7 +21,7 @@ use Rattle.record.specs.declared.answer.Read.the-variants.{Accepted, Refused as
 use Rattle.runs.specs.Told.{marksOf}
 use Rattle.row_calls.specs.declared.apply.Change.{Change}
 use Rattle.row_calls.specs.declared.apply.Change.the-variants.{Setup, Erase, Preset, Arm, Acknowledge}
-use Rattle.runs.specs.Op.{Op, changes, restore, reading, looks, Refused}
+use Rattle.runs.specs.Op.{Op, changes, restore, reading, looks, RefusedFor}
 use Rattle.runs.specs.Event.{Event, bits, asked, rowNext, rowSince}
 use Rattle.runs.proofs.CallLaws.{refused-after}
 use Rattle.history.specs.Phase.{Phase, moved, bySort, readTo, restoredTo, afterChange}
@@ -33,7 +33,7 @@ use Rattle.history.proofs.RowHistory.{phase-lawful, row-history, status
 -- ---- one event
 
 -- HEADLINE: a call that is refused changes nothing.
-pub refused-stays : (r : Row) (o : Op) (e : Refusal) → Refused r o e → rowNext r (asked o) ≡ r
+pub refused-stays : (r : Row) (o : Op) (e : Refusal) → RefusedFor r o e → rowNext r (asked o) ≡ r
 unfolding rowNext
 refused-stays r o e q = refused-after r o e q
 

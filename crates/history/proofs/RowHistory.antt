@@ -31,9 +31,8 @@ since-append r [] old = refl
 since-append r (e ∷ new) old = ap (λ (s : Row). rowNext s e) (since-append r new old)
 
 module _ {r : Row} (words : Words r) (h : List Event) where
-  -- HEADLINE: every phase begins with the given row or with one that an accepted setup, an erase or an accepted restore makes, its acts
-  -- were accepted,
-  -- and the place of a counter is in the range.
+  -- HEADLINE: every phase begins with the given row or with one that an accepted setup, an erase or an accepted
+  -- restore makes, its acts were accepted, and the place of a counter is in the range.
   pub phase-lawful : Lawful r (phaseOf r h)
   phase-lawful = tells words h .lawful
 

@@ -1,6 +1,5 @@
--- Depth 1, x4, from a first sample on and with no call between: E stands at exactly the samples with a move of two, and the position moves
--- as the
--- shaft does.
+-- Depth 1, x4, from a first sample on and with no call between: E stands at exactly the
+-- samples with a move of two, and the position moves as the shaft does.
 use mathlib.Core.Path.{_≡_, refl, sym, _∙_, ap, ap₂}
 use mathlib.Core.Bool.{true, false, true≢false}
 use mathlib.Core.List.{List, [], _∷_, _++_}
@@ -26,7 +25,7 @@ use Rattle.history.specs.Levels.{primedAt}
 use Rattle.history.specs.Entries.{codeAt, entryAt, doubleAt}
 use Rattle.history.specs.Homing.{homesAt}
 use Rattle.history.specs.Tally.{onward, walked, ranged, placeTally, positionAt, rangeAt}
-use Rattle.history.specs.Shaft.{cycle, angleCode, ShaftSample, rawAt, watched, angleAt, turnedBy, AtMostTwo, Plain}
+use Rattle.history.specs.Shaft.{cycle, angleCode, ShaftSample, rawAt, watched, angleAt, turnedBy, AtMostTwo, Undisturbed}
 use Rattle.history.proofs.LevelsLaws.{level-one}
 use Rattle.history.proofs.EntriesLaws.{entry-primed, double-entry}
 use Rattle.history.proofs.TallyLaws.{one-clear}
@@ -167,7 +166,7 @@ module _ (x : Axis) (start : Start x) (kind : x .config .kind ≡ X4) (depth : x
   unfolding placeTally watched
   tally-next ts t g n = rw (n, entry-watched ts t g)
 
-  stretch : (old new : List ShaftSample) → AtMostTwo first old new → Plain x first old new →
+  stretch : (old new : List ShaftSample) → AtMostTwo first old new → Undisturbed x first old new →
       rangeAt x (watched first (new ++ old)) ≡ false →
       positionAt x (watched first (new ++ old))
       ≡ positionAt x (watched first old) +ℤ (angleAt first (new ++ old) -ℤ angleAt first old)
@@ -184,10 +183,9 @@ module _ (x : Axis) (start : Start x) (kind : x .config .kind ≡ X4) (depth : x
       (expected-worth (move ts t) (sym (double-watched ts t (g .0)) ∙ p .0))
       ∙ joined (positionAt x (watched first old)) (angleAt first old) (angleAt first ts) (t .angle)
 
-  -- HEADLINE: over any stretch of samples without E or homing, also after an earlier E, the position moves exactly as the shaft does, where
-  -- RANGE is
-  -- clear.
-  pub moves-as-shaft : (old new : List ShaftSample) → AtMostTwo first old new → Plain x first old new →
+  -- HEADLINE: over any stretch of samples without E or homing, also after an earlier E, the
+  -- position moves exactly as the shaft does, where RANGE is clear.
+  pub moves-as-shaft : (old new : List ShaftSample) → AtMostTwo first old new → Undisturbed x first old new →
       after x (watched first (new ++ old)) .flags .range ≡ false →
       positionOf (after x (watched first (new ++ old)) .word)
       ≡ positionOf (after x (watched first old) .word) +ℤ (angleAt first (new ++ old) -ℤ angleAt first old)

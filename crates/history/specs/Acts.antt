@@ -1,6 +1,5 @@
--- What happens to a sampled axis of one configuration: document 01, "A port sample" and "Calls that name one axis". A history is a list of
--- acts,
--- newest first.
+-- What happens to a sampled axis of one configuration: document 01, "A port sample" and
+-- "Calls that name one axis". A history is a list of acts, newest first.
 use mathlib.Core.Path.{_≡_}
 use mathlib.Core.Bool.{true}
 use mathlib.Core.List.{List, [], _∷_}
@@ -30,13 +29,13 @@ after x [] = x
 after x (a ∷ h) = act (after x h) a
 
 -- A preset is accepted within the range only.
-abbrev pub Accepted : Act → Type 0
-Accepted (sampled s) = Unit {0}
-Accepted (preset p) = inRange p ≡ true
-Accepted arm = Unit {0}
-Accepted acknowledge = Unit {0}
+abbrev pub Allowed : Act → Type 0
+Allowed (sampled s) = Unit {0}
+Allowed (preset p) = inRange p ≡ true
+Allowed arm = Unit {0}
+Allowed acknowledge = Unit {0}
 
 -- Every act of a history was accepted.
 abbrev pub Legal : List Act → Type 0
 Legal [] = Unit {0}
-Legal (a ∷ h) = Accepted a × Legal h
+Legal (a ∷ h) = Allowed a × Legal h

@@ -27,9 +27,8 @@ gapOf p (Double ∷ ms) = 0
 unfoldable pub ageOf : Pace → List Move → ℕ
 ageOf p ms = min (2 ^ 32 - 1) (gapOf p ms)
 
--- The period of a step in direction d after the entries ms: the samples since the entry off zero before it, if they are below 2 ^ 32 - 1
--- and that
--- entry's direction was d.
+-- The period of a step in direction d after the entries ms: the samples since the entry off zero
+-- before it, if they are below 2 ^ 32 - 1 and that entry's direction was d.
 unfoldable pub stepSpan : ℕ → Pace → List Move → ℕ
 stepSpan d p ms = cond (ltb (gapOf p ms + 1) (2 ^ 32 - 1) && eqb (directionOf p ms) d) (gapOf p ms + 1) 0
 

@@ -1,7 +1,6 @@
--- What the events of one axis tell, from any four words: document 01, "One row, four words", "A port sample" and "Calls that name one
--- axis". A
--- phase begins with every setup, erase and restore that is accepted, and within a phase the configuration stays. Events have the newest
--- first.
+-- What the events of one axis tell, from any four words: document 01, "One row, four words", "A port sample"
+-- and "Calls that name one axis". A phase begins with every setup, erase and restore that is accepted, and
+-- within a phase the configuration stays. Events have the newest first.
 use Prim.Native.Nat.{ℕ}
 use mathlib.Core.Bool.{true, false, cond}
 use mathlib.Core.List.{List, [], _∷_}

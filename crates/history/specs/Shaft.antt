@@ -50,9 +50,9 @@ AtMostTwo first old [] = Unit {0}
 AtMostTwo first old (t ∷ new) = (turnedBy first (new ++ old) t ≤ 2) × AtMostTwo first old new
 
 -- No sample of that stretch had E or homed.
-abbrev pub Plain : Axis → ShaftSample → List ShaftSample → List ShaftSample → Type 0
-Plain x first old [] = Unit {0}
-Plain x first old (t ∷ new) =
+abbrev pub Undisturbed : Axis → ShaftSample → List ShaftSample → List ShaftSample → Type 0
+Undisturbed x first old [] = Unit {0}
+Undisturbed x first old (t ∷ new) =
     (doubleAt x (rawAt t) (watched first (new ++ old)) ≡ false)
     × (homesAt x (rawAt t) (watched first (new ++ old)) ≡ false)
-    × Plain x first old new
+    × Undisturbed x first old new

@@ -1,6 +1,5 @@
--- Linear arithmetic on ℤ by `omega`: z is plus z - minus z, one of which is 0. Each operation has one balance, an equation of natural
--- numbers
--- that `omega` reads; an equation or an order of ℤ is one of natural numbers.
+-- Linear arithmetic on ℤ by `omega`: z is plus z - minus z, one of which is 0. Each operation has one balance, an equation
+-- of natural numbers that `omega` reads; an equation or an order of ℤ is one of natural numbers.
 use mathlib.Core.Path.{_≡_, refl, sym, ap, _∙_, subst}
 use mathlib.Core.Bool.{Bool, true, false}
 use Prim.Native.Nat.{ℕ, zero, suc, _+_, _*_, _-_, _/_, _%_, _≤_, _<_}

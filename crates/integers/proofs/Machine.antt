@@ -1,5 +1,4 @@
--- Signed 64-bit numbers of the machine, in terms of plus and minus.
--- Assumes nothing.
+-- Signed 64-bit numbers of the machine, in terms of plus and minus. Assumes nothing.
 use mathlib.Core.Path.{_≡_, refl, sym, _∙_, subst}
 use Prim.Native.Nat.{ℕ, suc, _+_, _-_, _/_, _^_, _≤_, _<_}
 use native.Mathlib.Omega.{arith}

@@ -14,11 +14,9 @@ pub record AgreeOn (k : ℕ) (t u : List ℕ) (cs ds : List Call) : Type 0 where
   pub answers : heard k t cs ≡ heard k u ds
   pub rows : rows k t cs ≡ rows k u ds
 
--- HEADLINE: two tables of one legal length and two runs of calls, which may differ in length: where they agree on axis k's starting row, on
--- the calls
--- that name k and on k's bits of every sample, in the same order, k's row at the end and after each of its own events, its answers, the
--- bytes that a
--- save wrote and its bits of the masks agree, whatever the other axes did.
+-- HEADLINE: two tables of one legal length and two runs of calls, which may differ in length: where they agree on axis k's starting row,
+-- on the calls that name k and on k's bits of every sample, in the same order, k's row at the end and after each of its own events, its
+-- answers, the bytes that a save wrote and its bits of the masks agree, whatever the other axes did.
 pub apart : (k : ℕ) (t u : List ℕ) → length t ≡ length u → k < axesIn (length t) → rowAt t k ≡ rowAt u k →
     (cs ds : List Call) → events k cs ≡ events k ds → AgreeOn k t u cs ds
 apart k t u l h e cs ds q =

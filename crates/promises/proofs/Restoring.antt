@@ -19,9 +19,8 @@ use Rattle.table.specs.Call.{ruled, tableAfter}
 use Rattle.runs.proofs.CallLaws.{ruled-is, by-rule}
 
 module _ (t : List ℕ) (k : ℕ) (h : k < axesIn (length t)) where
-  -- HEADLINE: a restore that is accepted makes of the named row, whatever it held, broken too, what a setup with the record's configuration
-  -- and then a
-  -- preset to its position make.
+  -- HEADLINE: a restore that is accepted makes of the named row, whatever it held, broken too, what a
+  -- setup with the record's configuration and then a preset to its position make.
   pub restore-sets-up : (s : List ℕ) (said : Saved) → readAs s ≡ Accepted said →
       ruled (restoreRow s) t k
       ≡ andThen (setupRow (said .config .kind) (said .config .depth) (said .config .width) (said .config .turn) (rowAt t k))

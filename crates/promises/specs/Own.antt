@@ -1,4 +1,4 @@
--- What one axis has of a run, from its own row and its own part of each call: document 01, "Axes are apart".
+-- What one axis has of a run, from its own row and its own part of each call.
 use Prim.Native.Nat.{ℕ}
 use mathlib.Core.Bool.{cond}
 use mathlib.Core.List.{List, [], _∷_, _++_}

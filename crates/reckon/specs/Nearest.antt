@@ -18,8 +18,7 @@ pub record Nearest (w : ℕ) (W : ℤ) (r : ℕ) (z : ℤ) : Type 0 where
   pub one : (y : ℤ) → modZ y (2 ^ w) ≡ r → (y ≡ z) ⊎ (natAbs (z -ℤ W) < natAbs (y -ℤ W))
 
 -- When each answer is given: VALUE for arguments outside their limits; else HALF where a value with low bits r lies exactly half a turn
--- from W;
--- else the value that lies less than half a turn from W, where it is in the range, and RANGE where it is not.
+-- from W; else the value that lies less than half a turn from W, where it is in the range, and RANGE where it is not.
 pub data Verdict (w : ℕ) (W : ℤ) (r : ℕ) (a : Reckoned) : Type 0 where
   value : goodReading w W r ≡ false → a ≡ Refused Value → Verdict w W r a
   half : goodReading w W r ≡ true → (p : ℤ) → modZ p (2 ^ w) ≡ r → 2 * natAbs (p -ℤ W) ≡ 2 ^ w → a ≡ Refused Half → Verdict w W r a

@@ -2,7 +2,7 @@
 use mathlib.Core.Path.{_≡_, refl, sym, ap, _∙_}
 use mathlib.Core.Logic.{inl, inr}
 use mathlib.Core.Bool.{Bool, true, false, cond}
-use mathlib.Core.List.{List, [], _∷_}
+use mathlib.Core.List.{List, [], _∷_, map}
 use Prim.Native.Nat.{ℕ, _≤_}
 use native.Mathlib.Omega.{arith}
 use lib.ListN.{getD}
@@ -45,6 +45,10 @@ told-apart r s n f = sym (again r .0) ∙ rw (n, f) (again s .0)
 -- HEADLINE: every reason has its place in the order in which they are checked, and no other has it.
 pub in-place : (r : Refusal) → numberOf (getD checked (placeIn checked (numberOf r)) Length) ≡ numberOf r
 in-place r = again r .1
+
+-- HEADLINE: that order is the one of the paper's table, line by line.
+pub in-table : map numberOf checked ≡ 1 ∷ 2 ∷ 3 ∷ 4 ∷ 5 ∷ 6 ∷ 7 ∷ 8 ∷ 9 ∷ 10 ∷ 11 ∷ 12 ∷ []
+in-table = refl
 
 module _ (order : List Refusal) (e f : Refusal) {n : ℕ} (sooner : placeIn order (numberOf f) ≤ placeIn order (numberOf e)) where
   -- An answer that is done or comes after a reason is not refused for that one, nor for one before it.

@@ -23,14 +23,14 @@ use Rattle.row_calls.specs.declared.answer.Changed.the-variants.{To, Kep
 use Rattle.row_calls.proofs.ChangeLaws.{to-one, kept-not}
 
 -- What the numbers of a configuration are below.
-pub record Limits (k d v n : ℕ) : Type 0 where
+pub record SetupLimits (k d v n : ℕ) : Type 0 where
   pub kind : k < 2 ^ 8
   pub depth : d < 2 ^ 8
   pub width : v < 2 ^ 8
   pub turn : n < 2 ^ 32
 
 -- A configuration is within them.
-pub limits : (k d v n : ℕ) → goodConfig k d v n ≡ true → Limits k d v n
+pub limits : (k d v n : ℕ) → goodConfig k d v n ≡ true → SetupLimits k d v n
 limits k d v n e =
     let h = setup-held (configOf k d v n) 0 e .narrow .config in
     record {

@@ -12,7 +12,7 @@ use axis_sound::open;
 use refusal::Refusal;
 
 // What an axis shows.
-fn shown(a: Axis) -> View
+fn view_of(a: Axis) -> View
     requires { ⌜ Word (a .word) ⌝ }
     ensures { λ v. ⌜ v ≡ viewOf a ⌝ }
 {
@@ -39,7 +39,7 @@ pub fn view(r: Row) -> Viewed
     match status {
         Status::Broken => Viewed::Refused(Refusal::Broken),
         Status::Empty => Viewed::Refused(Refusal::Empty),
-        Status::Sampled => Viewed::Shows(shown(axis)),
-        Status::Counter => Viewed::Shows(shown(axis)),
+        Status::Sampled => Viewed::Shows(view_of(axis)),
+        Status::Counter => Viewed::Shows(view_of(axis)),
     }
 }

@@ -18,12 +18,12 @@ use Rattle.axis_sound.specs.declared.Status.the-variants.{Counter}
 use Rattle.axis_sound.proofs.SoundLaws.{counter-gives}
 use Rattle.row_counter.specs.Reading.{readAxis, readingOf, readingRow, storedRow, readRow}
 use Rattle.row_calls.specs.Calls.{leftBy}
-use Rattle.row_counter.specs.Counter.{newest, lowBits, rowRead, UnderHalf, still, polled, At}
+use Rattle.row_counter.specs.Counter.{newest, lowBits, rowRead, UnderHalf, still, polled, CounterAt}
 use Rattle.row_calls.proofs.ChangeLaws.{counter-holds}
 use Rattle.row_counter.proofs.ReadingLaws.{read-at, read-kept}
 
 -- A counter row is at its own position.
-at-start : (r : Row) → statusOf r ≡ Counter → At (axisOf r .config .width) (positionOf (axisOf r .word)) r
+at-start : (r : Row) → statusOf r ≡ Counter → CounterAt (axisOf r .config .width) (positionOf (axisOf r .word)) r
 at-start r e =
     let k = counter-gives r e in
     let same = sym (word-position (axisOf r .word) (k .word)) in
@@ -31,7 +31,7 @@ at-start r e =
 
 -- ---- one reading, from a counter row q of w bits at the position W
 
-module _ (w : ℕ) (W : ℤ) (q : Row) (at : At w W q) (okW : inRange W ≡ true) (p : ℤ) (ok : inRange p ≡ true)
+module _ (w : ℕ) (W : ℤ) (q : Row) (at : CounterAt w W q) (okW : inRange W ≡ true) (p : ℤ) (ok : inRange p ≡ true)
     (near : 2 * natAbs (p -ℤ W) < 2 ^ w) where
   counter : CounterAxis (axisOf q)
   counter = counter-gives q (at .status)
@@ -51,7 +51,7 @@ module _ (w : ℕ) (W : ℤ) (q : Row) (at : At w W q) (okW : inRange W ≡ true
       ∙ rw (position-word W okW) (true-position w W p good okW ok near))
 
   -- The row is then at it.
-  one-row : At w p (leftBy q (readRow (lowBits w p) q))
+  one-row : CounterAt w p (leftBy q (readRow (lowBits w p) q))
   unfolding readRow storedRow
   one-row =
       let h = counter-holds (readAxis p (axisOf q)) (read-kept (axisOf q) p ok counter) in
@@ -74,7 +74,7 @@ module _ (r : Row) (counter : statusOf r ≡ Counter) where
   newest-in-range (polled p ps ok near g) = ok
 
   -- HEADLINE: after readings of a shaft that moves gently, the row is a counter as setup leaves it, at the shaft's position.
-  pub counter-follows : {ps : List ℤ} → UnderHalf bits start ps → At bits (newest start ps) (rowRead bits r ps)
+  pub counter-follows : {ps : List ℤ} → UnderHalf bits start ps → CounterAt bits (newest start ps) (rowRead bits r ps)
   unfolding rowRead
   counter-follows still = at-start r counter
   counter-follows (polled p ps ok near g) =

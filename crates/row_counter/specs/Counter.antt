@@ -33,6 +33,6 @@ pub data UnderHalf (w : ℕ) (W : ℤ) : List ℤ → Type 0 where
   polled : (p : ℤ) (ps : List ℤ) → inRange p ≡ true → 2 * natAbs (p -ℤ newest W ps) < 2 ^ w → UnderHalf w W ps → UnderHalf w W (p ∷ ps)
 
 -- A counter row of w bits at a position.
-pub record At (w : ℕ) (p : ℤ) (q : Row) : Type 0 where
+pub record CounterAt (w : ℕ) (p : ℤ) (q : Row) : Type 0 where
   pub status : statusOf q ≡ Counter
   pub axis : axisOf q ≡ freshAt (counterOf w) (wordOf p)

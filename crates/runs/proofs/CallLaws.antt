@@ -28,7 +28,7 @@ use Rattle.table_port.proofs.PortLaws.{sample-length}
 use Rattle.table.specs.Call.{ruled, tableAfter}
 use Rattle.table.proofs.CallLaws.{makes-spares}
 use Rattle.runs.specs.Told.{refused, toldDone, toldNumber}
-use Rattle.runs.specs.Op.{Look, Op, changes, restore, reading, looks, ruleOf, answerOf, rowAfter, Refused as Unasked}
+use Rattle.runs.specs.Op.{Look, Op, changes, restore, reading, looks, ruleOf, answerOf, rowAfter, RefusedFor}
 use Rattle.runs.specs.Run.{Call, port, names, tableBy, tableNext, answerIn, heardOf}
 
 -- ---- the row
@@ -44,7 +44,7 @@ unread-stays r (Unreckoned x) e q = refl
 unread-stays r (Number z) e q = absurd (let z : _≡_ {A = ℕ} 0 1 = cc in omega arith)
 
 -- HEADLINE: a call that is refused changes nothing.
-pub refused-after : (r : Row) (o : Op) (e : Refusal) → Unasked r o e → rowAfter r o ≡ r
+pub refused-after : (r : Row) (o : Op) (e : Refusal) → RefusedFor r o e → rowAfter r o ≡ r
 unfolding rowAfter ruleOf answerOf readRow
 refused-after r (changes c) e q = undone-stays r (changeRow c r) e q
 refused-after r (restore bytes) e q = undone-stays r (restoreRow bytes r) e q

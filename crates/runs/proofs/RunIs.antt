@@ -69,84 +69,84 @@ number-only (Unreckoned e) (Unreckoned f) q = cc
 -- ---- the eleven calls
 
 -- HEADLINE: a port sample.
-pub sample-is : {t u : List ℕ} {word : ℕ} {a : Sampled} → Samples t word u a →
+pub sample-run : {t u : List ℕ} {word : ℕ} {a : Sampled} → Samples t word u a →
     (u ≡ tableNext t (port word)) × ((k : ℕ) → bitsOf k a ≡ heardOf k t (port word))
 unfolding tableNext heardOf
-sample-is w = (w .table, λ k. ap (bitsOf k) (w .answer))
+sample-run w = (w .table, λ k. ap (bitsOf k) (w .answer))
 
 module _ {t u : List ℕ} {k : ℕ} where
   -- A call that answers only that it was done, by its rule.
-  done-is : (o : Op) (rule : Row → Changed) → ruleOf o ≡ rule → answerOf o ≡ (λ r. toldDone (doneOf (rule r))) → {a : Done} →
+  done-run : (o : Op) (rule : Row → Changed) → ruleOf o ≡ rule → answerOf o ≡ (λ r. toldDone (doneOf (rule r))) → {a : Done} →
       Makes rule t k u a ↔ Says o t k u (toldDone a)
   unfolding tableNext tableBy answerIn
-  done-is o rule f g {a} =
+  done-run o rule f g {a} =
       let told = tell-found (λ (d : Changed). toldDone (doneOf d)) Kept rule (λ e. refl) (located t k) in (
         (λ w. record { table = rw f (w .table); told = rw g (ap toldDone (w .answer) ∙ told) }),
         (λ s. record { answer = done-only a _ (rw g at (s .told) ∙ sym told); table = rw f at (s .table) }),
       )
 
   -- The five that are one code enum.
-  change-is : (c : Change) {a : Done} → Makes (changeRow c) t k u a ↔ Says (changes c) t k u (toldDone a)
+  change-run : (c : Change) {a : Done} → Makes (changeRow c) t k u a ↔ Says (changes c) t k u (toldDone a)
   unfolding ruleOf answerOf
-  change-is c = done-is (changes c) (changeRow c) refl refl
+  change-run c = done-run (changes c) (changeRow c) refl refl
 
   -- HEADLINE: setup.
-  pub setup-is : (kind depth width turn : ℕ) {a : Done} →
+  pub setup-run : (kind depth width turn : ℕ) {a : Done} →
       Makes (setupRow kind depth width turn) t k u a ↔ Says (changes (Setup kind depth width turn)) t k u (toldDone a)
-  setup-is kind depth width turn = change-is (Setup kind depth width turn)
+  setup-run kind depth width turn = change-run (Setup kind depth width turn)
 
   -- HEADLINE: erase.
-  pub erase-is : {a : Done} → Makes eraseRow t k u a ↔ Says (changes Erase) t k u (toldDone a)
-  erase-is = change-is Erase
+  pub erase-run : {a : Done} → Makes eraseRow t k u a ↔ Says (changes Erase) t k u (toldDone a)
+  erase-run = change-run Erase
 
   -- HEADLINE: preset.
-  pub preset-is : (p : ℤ) {a : Done} → Makes (presetRow p) t k u a ↔ Says (changes (Preset p)) t k u (toldDone a)
-  preset-is p = change-is (Preset p)
+  pub preset-run : (p : ℤ) {a : Done} → Makes (presetRow p) t k u a ↔ Says (changes (Preset p)) t k u (toldDone a)
+  preset-run p = change-run (Preset p)
 
   -- HEADLINE: arm.
-  pub arm-is : {a : Done} → Makes armRow t k u a ↔ Says (changes Arm) t k u (toldDone a)
-  arm-is = change-is Arm
+  pub arm-run : {a : Done} → Makes armRow t k u a ↔ Says (changes Arm) t k u (toldDone a)
+  arm-run = change-run Arm
 
   -- HEADLINE: acknowledge.
-  pub acknowledge-is : {a : Done} → Makes acknowledgeRow t k u a ↔ Says (changes Acknowledge) t k u (toldDone a)
-  acknowledge-is = change-is Acknowledge
+  pub acknowledge-run : {a : Done} → Makes acknowledgeRow t k u a ↔ Says (changes Acknowledge) t k u (toldDone a)
+  acknowledge-run = change-run Acknowledge
 
   -- HEADLINE: restore.
-  pub restore-is : (bytes : List ℕ) {a : Done} → Makes (restoreRow bytes) t k u a ↔ Says (restore bytes) t k u (toldDone a)
+  pub restore-run : (bytes : List ℕ) {a : Done} → Makes (restoreRow bytes) t k u a ↔ Says (restore bytes) t k u (toldDone a)
   unfolding ruleOf answerOf
-  restore-is bytes = done-is (restore bytes) (restoreRow bytes) refl refl
+  restore-run bytes = done-run (restore bytes) (restoreRow bytes) refl refl
 
   -- HEADLINE: a reading.
-  pub reading-is : (x : ℕ) {a : Reckoned} → ReadingMakes x t k u a ↔ Says (reading x) t k u (toldNumber a)
+  pub reading-run : (x : ℕ) {a : Reckoned} → ReadingMakes x t k u a ↔ Says (reading x) t k u (toldNumber a)
   unfolding tableNext tableBy answerIn answerOf ruleOf
-  reading-is x {a} =
+  reading-run x {a} =
       let told = tell-found toldNumber Unreckoned (readingRow x) (λ e. refl) (located t k) in (
         (λ w. record { table = w .table; told = ap toldNumber (w .answer) ∙ told }),
         (λ s. record { answer = number-only a _ (s .told ∙ sym told); table = s .table }),
       )
 
   -- HEADLINE: a view, which leaves the table.
-  pub view-is : {a : Viewed} → ((u ≡ t) × (a ≡ viewedIn t k)) ↔ Says (looks view) t k u (toldView a)
+  pub view-run : {a : Viewed} → ((u ≡ t) × (a ≡ viewedIn t k)) ↔ Says (looks view) t k u (toldView a)
   unfolding tableNext answerIn answerOf lookRow
-  view-is {a} =
+  view-run {a} =
       let told = tell-found toldView Unseen viewRow (λ e. refl) (located t k) in (
         (λ w. record { table = w .0 ∙ sym (look-keeps t k view); told = ap toldView (w .1) ∙ told }),
         (λ s. (s .table ∙ look-keeps t k view, view-only a _ (s .told ∙ sym told))),
       )
 
   -- HEADLINE: a speed by period, which leaves the table.
-  pub speed-is : (rate : ℕ) {a : Speed} → ((u ≡ t) × (a ≡ speedIn rate t k)) ↔ Says (looks (speed rate)) t k u (toldSpeed a)
+  pub speed-run : (rate : ℕ) {a : Speed} → ((u ≡ t) × (a ≡ speedIn rate t k)) ↔ Says (looks (speed rate)) t k u (toldSpeed a)
   unfolding tableNext answerIn answerOf lookRow
-  speed-is rate {a} =
+  speed-run rate {a} =
       let told = tell-found toldSpeed Unsped (speedRow rate) (λ e. refl) (located t k) in (
         (λ w. record { table = w .0 ∙ sym (look-keeps t k (speed rate)); told = ap toldSpeed (w .1) ∙ told }),
         (λ s. (s .table ∙ look-keeps t k (speed rate), speed-one-number a _ (number-only _ _ (s .told ∙ sym told)))),
       )
 
 -- HEADLINE: a save, which leaves the table: b is what the buffer holds before it, d after it.
-pub save-is : {t : List ℕ} {k : ℕ} {b d : List ℕ} {a : Written} → SaveMakes t k b d a → Says (looks (save b)) t k t (toldBytes a d)
+pub save-run : {t : List ℕ} {k : ℕ} {b d : List ℕ} {a : Written} → SaveMakes t k b d a → Says (looks (save b)) t k t (toldBytes a d)
 unfolding tableNext answerIn answerOf lookRow
-save-is {t} {k} {b} {d} {a} w = record { table = sym (look-keeps t k (save b)); told = rw (w .answer, w .buffer) (go (located t k)) }
+save-run {t} {k} {b} {d} {a} w = record { table = sym (look-keeps t k (save b)); told = rw (w .answer, w .buffer) (go (located t k)) }
   where
     go : (l : Located) →
         toldBytes (onFound Unwritten (saveRow (length b)) l) (onFound (λ _. b) (savedIn b) l)

@@ -55,5 +55,5 @@ unfoldable pub rowAfter : Row → Op → Row
 rowAfter r o = leftBy r (ruleOf o r)
 
 -- A call on a row is refused.
-abbrev pub Refused : Row → Op → Refusal → Type 0
-Refused r o e = answerOf o r ≡ refused e
+abbrev pub RefusedFor : Row → Op → Refusal → Type 0
+RefusedFor r o e = answerOf o r ≡ refused e

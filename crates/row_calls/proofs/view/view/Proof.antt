@@ -9,14 +9,14 @@ use borrow.Author.Needs.{needs}
 use Rattle.row_calls.proofs.view.view.Statement.{statement}
 use Rattle.row_calls.proofs.view.view.Tie as tie
 
-shown-requires : tie.Need-shown-requires
-shown-requires c κs =
+view-of-requires : tie.Need-view-of-requires
+view-of-requires c κs =
     let o = c .before .before .before in
     let g = opened-sampled (o .before .args .r) (o .open .result) (o .open .ensures) (c .enum-told3 .given .1) in
     rw (g .1) (live-position (o .before .args .r) (inl (g .0)))
 
-shown-requires-2 : tie.Need-shown-requires-2
-shown-requires-2 c κs =
+view-of-requires-2 : tie.Need-view-of-requires-2
+view-of-requires-2 c κs =
     let o = c .before .before .before in
     let g = opened-counter (o .before .args .r) (o .open .result) (o .open .ensures) (c .enum-told4 .given .1) in
     rw (g .1) (live-position (o .before .args .r) (inr (g .0)))
@@ -33,17 +33,17 @@ returns-3 : tie.Need-returns-3
 unfolding viewRow
 returns-3 c =
     let o = c .before .before .before .before in
-    rw (sym (o .open .ensures .0) ∙ c .before .enum-told3 .given .1) (ap Shows (c .shown .ensures ∙ ap viewOf (o .open .ensures .1)))
+    rw (sym (o .open .ensures .0) ∙ c .before .enum-told3 .given .1) (ap Shows (c .view-of .ensures ∙ ap viewOf (o .open .ensures .1)))
 
 returns-4 : tie.Need-returns-4
 unfolding viewRow
 returns-4 c =
     let o = c .before .before .before .before in
-    rw (sym (o .open .ensures .0) ∙ c .before .enum-told4 .given .1) (ap Shows (c .shown2 .ensures ∙ ap viewOf (o .open .ensures .1)))
+    rw (sym (o .open .ensures .0) ∙ c .before .enum-told4 .given .1) (ap Shows (c .view-of2 .ensures ∙ ap viewOf (o .open .ensures .1)))
 
 pub view-spec : {M : Type 1} → statement M
 view-spec =
     tie.close
     (tie.spec
-    (λ c κs. search needs) (λ c. search needs) (λ c. search needs) (λ c. search needs) shown-requires
-    (λ c. search needs) shown-requires-2 returns returns-2 returns-3 returns-4)
+    (λ c κs. search needs) (λ c. search needs) (λ c. search needs) (λ c. search needs) view-of-requires
+    (λ c. search needs) view-of-requires-2 returns returns-2 returns-3 returns-4)
