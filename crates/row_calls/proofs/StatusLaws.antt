@@ -24,7 +24,7 @@ use Rattle.axis_sound.proofs.SoundLaws.{sampled-gives, counter-gives, opened-sa
 use Rattle.row_calls.specs.declared.answer.Changed.{Changed}
 use Rattle.row_calls.specs.declared.answer.Changed.the-variants.{To, Kept}
 use Rattle.row_calls.specs.Change.{changed}
-use Rattle.row_calls.specs.Calls.{byStatus}
+use Rattle.row_calls.specs.Calls.{byStatus, placeAxis}
 
 -- An axis within its widths packs, whatever its word, its flags and its doubles become.
 pub packs : {a : Axis} → Narrow a → (word : ℕ) (flags : Flags) (doubles : ℕ) → doubles < 2 ^ 16 → Narrow (changed a word flags doubles)
@@ -82,3 +82,7 @@ sampled-makes f r o h = go (o .status) refl
     go Broken e = rw (sym (h .0), e)
     go Empty e = rw (sym (h .0), e)
     go Counter e = rw (sym (h .0), e)
+
+-- A preset of an opened row's axis, by the number that the machine holds, is one of the row's axis.
+pub placed-there : {p q : ℤ} {a b : Axis} {c : Changed} → q ≡ p → c ≡ placeAxis q a → a ≡ b → c ≡ placeAxis p b
+placed-there e h g = cc

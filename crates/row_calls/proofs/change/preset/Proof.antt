@@ -1,6 +1,7 @@
 use Rattle.integers.proofs.Machine.{back}
-use mathlib.Core.Path.{sym, ap, _∙_}
-use Rattle.row_calls.specs.Calls.{placeAxis, placeRow, presetRow}
+use mathlib.Core.Path.{sym, _∙_}
+use Rattle.row_calls.specs.Calls.{placeRow, presetRow}
+use Rattle.row_calls.proofs.StatusLaws.{placed-there}
 use Rattle.axis_sound.proofs.SoundLaws.{opened-narrow, opened-sampled, opened-counter}
 use borrow.Author.Needs.{needs}
 use Rattle.row_calls.proofs.change.preset.Statement.{statement}
@@ -25,14 +26,14 @@ unfolding presetRow placeRow
 returns-3 c =
     let o = c .before .before .before .before in
     let g = opened-sampled (o .before .args .r) (o .open .result) (o .open .ensures) (c .before .enum-told3 .given .1) in
-    rw (g .0) (rw (back (o .before .fits .position)) at (c .placed .ensures) ∙ ap (placeAxis (o .before .args .position)) (g .1))
+    rw (g .0) (placed-there (back (o .before .fits .position)) (c .placed .ensures) (g .1))
 
 returns-4 : tie.Need-returns-4
 unfolding presetRow placeRow
 returns-4 c =
     let o = c .before .before .before .before in
     let g = opened-counter (o .before .args .r) (o .open .result) (o .open .ensures) (c .before .enum-told4 .given .1) in
-    rw (g .0) (rw (back (o .before .fits .position)) at (c .placed2 .ensures) ∙ ap (placeAxis (o .before .args .position)) (g .1))
+    rw (g .0) (placed-there (back (o .before .fits .position)) (c .placed2 .ensures) (g .1))
 
 pub preset-spec : {M : Type 1} → statement M
 preset-spec =
