@@ -18,7 +18,7 @@ use Rattle.axis_sound.specs.declared.Status.the-variants.{Empty, Sampled
 use Rattle.axis.specs.Kind.{X1, X2, X4, COUNTER, sampledKind}
 use Rattle.axis.specs.Config.{sampledConfig, counterConfig, goodConfig, SampledSetting, CounterSetting}
 use Rattle.axis.specs.Row.{configIn, axisOf, rowOf, word1Of, word2Of, emptyRow, waiting, freshAt, blank, ConfigFits, Narrow, Held, Words}
-use Rattle.axis_sound.specs.Sound.{isEmpty, isPlain, isConsistent, isSampled, isCounter, statusOf, lowRow, passes}
+use Rattle.axis_sound.specs.Sound.{isEmpty, isPlain, isConsistent, isSampled, isCounter, statusOf, lowRow, brokenBy, passes}
 use Rattle.axis_sound.specs.Sound.{SampledAxis, counterOf, CounterAxis}
 use Rattle.axis.proofs.RowLaws.{same-config, row-held, waiting-held, row-again, back, comes-back}
 use Rattle.axis.proofs.TestLaws.{both, refuted}
@@ -80,6 +80,16 @@ status-of Broken r e =
     let h2 = both _ (not (isCounter r)) e in
     let h1 = both (not (isEmpty r)) _ (h2 .0) in
     rw (not-true (isEmpty r) (h1 .0), not-true (isSampled r) (h1 .1), not-true (isCounter r) (h2 .1))
+
+-- A row that is not sampled is broken where it is neither empty nor a counter's.
+pub broken-by : (r : Row) → isSampled r ≡ false → brokenBy (statusOf r) ≡ not (isEmpty r || isCounter r)
+unfolding statusOf
+broken-by r h = rw h (go (isEmpty r) (isCounter r))
+  where
+    go : (e c : Bool) → brokenBy (cond e Empty (cond c Counter Broken)) ≡ not (e || c)
+    go true c = refl
+    go false true = refl
+    go false false = refl
 
 -- An empty row is four zero words.
 pub empty-gives : (r : Row) → statusOf r ≡ Empty → r ≡ emptyRow

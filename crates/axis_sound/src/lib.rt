@@ -1,6 +1,6 @@
 // Which rows are sound.
 ghost use mathlib.Core.Path.{_≡_};
-ghost use mathlib.Core.Bool.{not, _&&_, _||_};
+ghost use mathlib.Core.Bool.{false, not, _&&_, _||_};
 ghost use lib.Dec.{eqb, ltb};
 ghost use Rattle.fields.specs.Field.{fieldOf};
 ghost use Rattle.axis.specs.Config.{sampledConfig};
@@ -130,14 +130,15 @@ fn is_counter(r: Row) -> bool
     plain & counter & (rest == 0) & (w2 == 0)
 }
 
-// What a row is, by the first test that it passes.
-fn classify(r: Row) -> Status
+// What a row is, by the first test that it passes; a is what it unpacks to.
+fn classify(r: Row, a: Axis) -> Status
+    requires { ⌜ a ≡ axisOf (lowRow r) ⌝ }
     ensures { λ s. ⌜ s ≡ statusOf r ⌝ }
 {
     if is_empty(r) {
         return Status::Empty;
     }
-    if is_sampled(r, axis_in(r)) {
+    if is_sampled(r, a) {
         return Status::Sampled;
     }
     if is_counter(r) {
@@ -146,16 +147,12 @@ fn classify(r: Row) -> Status
     Status::Broken
 }
 
-// Whether a row is broken.
+// Whether a row that is not sampled is broken.
 pub fn is_broken(r: Row) -> bool
+    requires { ⌜ isSampled r ≡ false ⌝ }
     ensures { λ b. ⌜ b ≡ brokenBy (statusOf r) ⌝ }
 {
-    match classify(r) {
-        Status::Broken => true,
-        Status::Empty => false,
-        Status::Sampled => false,
-        Status::Counter => false,
-    }
+    !(is_empty(r) | is_counter(r))
 }
 
 // A row with the low 32 bits of word 3.
@@ -177,13 +174,13 @@ pub fn axis_in(r: Row) -> Axis
     unpack::unpack(low(r))
 }
 
-// What a row is, and what it unpacks to. It is short, so that it is put in line; classify is not.
+// What a row is, and what it unpacks to.
 pub fn open(r: Row) -> Opened
     ensures { λ o. ⌜ (o .status ≡ statusOf r) × (o .axis ≡ axisOf (lowRow r)) ⌝ }
 {
     let axis = axis_in(r);
     Opened {
-        status: classify(r),
+        status: classify(r, axis),
         axis,
     }
 }

@@ -17,9 +17,9 @@ use Rattle.axis_sound.specs.declared.Status.the-variants.{Counter}
 use Rattle.axis_sample.specs.declared.step.SteppedRow.{SteppedRow}
 use Rattle.axis_sample.proofs.RowLaws.{counter-stays}
 use Rattle.record.specs.Record.{readAs}
-use Rattle.record.specs.declared.answer.Saved.{Saved}
+use Rattle.record_axis.specs.declared.saved.Saved.{Saved}
 use Rattle.record.specs.declared.answer.Read.the-variants.{Accepted}
-use Rattle.record.proofs.LimitsLaws.{within-parts}
+use Rattle.record_axis.proofs.LimitsLaws.{within-parts}
 use Rattle.record.proofs.RecordLaws.{accepted-within}
 use Rattle.row_calls.specs.Change.{changed}
 use Rattle.row_calls.specs.Calls.{leftBy, armRow, acknowledgeRow}

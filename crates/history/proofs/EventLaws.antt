@@ -26,7 +26,7 @@ use Rattle.axis_sample.specs.Step.{stepBy, stepRow}
 use Rattle.record.specs.Record.{readAs}
 use Rattle.record.specs.declared.answer.Read.{Read}
 use Rattle.record.specs.declared.answer.Read.the-variants.{Accepted, Refused as Unread}
-use Rattle.record.proofs.LimitsLaws.{within-parts}
+use Rattle.record_axis.proofs.LimitsLaws.{within-parts}
 use Rattle.record.proofs.RecordLaws.{accepted-within}
 use Rattle.row_calls.specs.Change.{changed}
 use Rattle.row_counter.specs.Reading.{readAxis, readingOf, readingRow, storedRow, readRow}

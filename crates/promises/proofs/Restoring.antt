@@ -7,7 +7,7 @@ use Rattle.axis.specs.Row.{axisOf, rowOf, freshAt}
 use Rattle.axis.specs.declared.row.Row.{Row}
 use Rattle.tagged.specs.Bytes.{AllBytes}
 use Rattle.record.specs.Record.{readAs}
-use Rattle.record.specs.declared.answer.Saved.{Saved}
+use Rattle.record_axis.specs.declared.saved.Saved.{Saved}
 use Rattle.record.specs.declared.answer.Read.the-variants.{Accepted}
 use Rattle.record.specs.declared.answer.Written.the-variants.{Bytes}
 use Rattle.row_calls.specs.Calls.{setupRow, presetRow, andThen}

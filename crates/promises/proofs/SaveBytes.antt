@@ -14,8 +14,9 @@ use Rattle.axis.specs.Row.{axisOf}
 use Rattle.axis.specs.declared.row.Row.{Row}
 use Rattle.axis_sound.specs.declared.Status.{Status}
 use Rattle.axis_sound.specs.declared.Status.the-variants.{Empty, Sampled, Counter, Broken}
-use Rattle.record.specs.Record.{withinLimits, recordOf, savedAs, written}
-use Rattle.record.specs.declared.answer.Saved.{Saved}
+use Rattle.record_axis.specs.Limits.{withinLimits}
+use Rattle.record.specs.Record.{recordOf, savedAs, written}
+use Rattle.record_axis.specs.declared.saved.Saved.{Saved}
 use Rattle.record.proofs.RecordLaws.{saved-front}
 use Rattle.row_saving.specs.Saving.{savedOf, saveRow, savedIn}
 use Rattle.runs.specs.Told.{Told, refused, wrote, toldBytes}

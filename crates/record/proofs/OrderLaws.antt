@@ -14,25 +14,19 @@ use Rattle.record.specs.declared.answer.Read.the-variants.{Accepted}
 use Rattle.tagged.specs.declared.field.Field.the-variants.{Value as Of, Bad}
 use Rattle.tagged.specs.Bytes.{numberAt, starts}
 use Rattle.tagged.specs.Field.{standsAt, fieldAt}
-use Rattle.record.specs.declared.axis_fields.AxisRead.{AxisRead}
-use Rattle.record.specs.declared.axis_fields.AxisRead.the-variants.{Refused as Unsaid}
+use Rattle.record_axis.specs.declared.axis_fields.AxisRead.{AxisRead}
+use Rattle.record_axis.specs.declared.axis_fields.AxisRead.the-variants.{Refused as Unsaid}
 use Rattle.record.specs.Opening.{opening}
-use Rattle.record.specs.Tags.{layoutTag, kindTag, depthTag, widthTag, turnTag, endTag}
-use Rattle.record.specs.AxisFields.{onField, knownKind, counterAs, sampledAs, counterAt, sampledAt, axisAt}
-use Rattle.record.specs.Record.{check, layoutFound, layoutRefusal, withinLimits, saying, endedAt, onAxis, readAs}
+use Rattle.record_axis.specs.Tags.{kindTag, depthTag, widthTag, turnTag}
+use Rattle.record.specs.Tags.{layoutTag, endTag}
+use Rattle.record_axis.specs.AxisFields.{knownKind, counterAs, sampledAs, counterAt, sampledAt, axisAt}
+use Rattle.record_axis.proofs.AxisLaws.{on-field}
+use Rattle.record_axis.specs.Limits.{withinLimits, saying}
+use Rattle.record.specs.Record.{check, layoutFound, layoutRefusal, endedAt, onAxis, readAs}
 use Rattle.record.specs.Order.{otherLayout, layoutIn, nineStand, kindIn, restStands, saidIn}
 use Rattle.record.specs.Order.{Judged, other-layout, bad-nine, bad-kind, bad-rest, bad-value, all-good}
 
 -- ---- the fields' answers as checks
-
-pub on-field : {A : Type 0} (s : List ℕ) (at tag n : ℕ) (r : A) (k : ℕ → ℕ → A) →
-    onField r (fieldAt s at tag n) k ≡ cond (standsAt s at tag n) (k (numberAt s (at + 3) n) (at + 3 + n)) r
-unfolding fieldAt
-on-field s at tag n r k = go (standsAt s at tag n)
-  where
-    go : (t : Bool) → onField r (cond t (Of (numberAt s (at + 3) n) (at + 3 + n)) Bad) k ≡ cond t (k (numberAt s (at + 3) n) (at + 3 + n)) r
-    go true = refl
-    go false = refl
 
 -- A check of an axis's fields is one of the record.
 on-axis : (t : Bool) (x : AxisRead) (r : Refusal) (k : Config → ℕ → ℕ → Read) → onAxis (cond t x (Unsaid r)) k ≡ check t r (onAxis x k)

@@ -17,7 +17,7 @@ use Rattle.refusal.specs.declared.Refusal.the-variants.{Room, Layout}
 use Rattle.position.specs.Position.{inRange}
 use Rattle.axis.specs.Kind.{X4, counterKind}
 use Rattle.axis.specs.Config.{goodConfig}
-use Rattle.record.specs.declared.answer.Saved.{Saved}
+use Rattle.record_axis.specs.declared.saved.Saved.{Saved}
 use Rattle.record.specs.declared.answer.Read.{Read}
 use Rattle.record.specs.declared.answer.Read.the-variants.{Accepted, Refused}
 use Rattle.record.specs.declared.answer.Tested.{Tested}
@@ -28,8 +28,9 @@ use Rattle.tagged.specs.Bytes.{AllBytes, numberIn, numberFrom, bytesOf, starts}
 use Rattle.record.specs.Answer.{readNumber, readFound, testedOf, testedNumber, testedFound}
 use Rattle.record.specs.Opening.{opening}
 use Rattle.record.specs.Tags.{layoutTag}
-use Rattle.record.specs.AxisFields.{frontBytes, settingBytes, axisBytes, axisLength}
-use Rattle.record.specs.Record.{withinLimits, readAs, testedAs, recordOf, savedAs, written, SavedInto, Shaped}
+use Rattle.record_axis.specs.AxisFields.{frontBytes, settingBytes, axisBytes, axisLength}
+use Rattle.record_axis.specs.Limits.{withinLimits}
+use Rattle.record.specs.Record.{readAs, testedAs, recordOf, savedAs, written, SavedInto, Shaped}
 use Rattle.tagged.specs.Field.{fieldBytes}
 use Rattle.record.specs.Order.{otherLayout, layoutIn}
 use Rattle.record.specs.Order.{Judged, other-layout, bad-nine, bad-kind, bad-rest, bad-value, all-good}

@@ -16,18 +16,19 @@ use Rattle.tagged.specs.Bytes.{AllBytes, bytesOf, starts}
 use Rattle.tagged.specs.Field.{standsAt, fieldBytes}
 use Rattle.tagged.proofs.BytesLaws.{starts-is}
 use Rattle.tagged.proofs.FieldLaws.{behind, stands-is, field-back}
-use Rattle.record.specs.declared.answer.Saved.{Saved}
+use Rattle.record_axis.specs.declared.saved.Saved.{Saved}
 use Rattle.record.specs.declared.answer.Read.{Read}
 use Rattle.record.specs.declared.answer.Read.the-variants.{Accepted}
-use Rattle.record.specs.declared.axis_fields.AxisRead.{AxisRead}
-use Rattle.record.specs.declared.axis_fields.AxisRead.the-variants.{Said, Refused as Unsaid}
+use Rattle.record_axis.specs.declared.axis_fields.AxisRead.{AxisRead}
+use Rattle.record_axis.specs.declared.axis_fields.AxisRead.the-variants.{Said, Refused as Unsaid}
 use Rattle.record.specs.Opening.{opening}
 use Rattle.record.specs.Tags.{endTag}
-use Rattle.record.specs.AxisFields.{axisAt, axisBytes}
-use Rattle.record.specs.Record.{check, layoutRefusal, withinLimits, saying, endedAt, onAxis, readAs, recordOf}
-use Rattle.record.proofs.LimitsLaws.{within-position}
-use Rattle.record.proofs.OrderLaws.{on-field}
-use Rattle.record.proofs.AxisLaws.{axis-back, axis-again}
+use Rattle.record_axis.specs.AxisFields.{axisAt, axisBytes}
+use Rattle.record_axis.specs.Limits.{withinLimits, saying}
+use Rattle.record.specs.Record.{check, layoutRefusal, endedAt, onAxis, readAs, recordOf}
+use Rattle.record_axis.proofs.LimitsLaws.{within-position}
+use Rattle.record_axis.proofs.AxisLaws.{on-field}
+use Rattle.record_axis.proofs.AxisLaws.{axis-back, axis-again}
 
 -- What is written is read.
 pub written-read : (s : Saved) → withinLimits s ≡ true → readAs (recordOf s) ≡ Accepted s

@@ -15,13 +15,15 @@ use Rattle.tagged.specs.Bytes.{bytesOf}
 use Rattle.tagged.specs.Store.{Puts}
 use Rattle.tagged.specs.Field.{fieldBytes}
 use Rattle.tagged.proofs.StoreLaws.{puts-then}
-use Rattle.record.specs.declared.answer.Saved.{Saved}
+use Rattle.record_axis.specs.declared.saved.Saved.{Saved}
 use Rattle.record.specs.declared.answer.Written.the-variants.{Bytes, Refused}
 use Rattle.record.specs.Opening.{opening}
-use Rattle.record.specs.Tags.{depthTag, widthTag, turnTag, endTag}
-use Rattle.record.specs.AxisFields.{frontBytes, settingBytes, axisBytes, axisLength}
-use Rattle.record.specs.Record.{withinLimits, recordOf, savedAs, written, SavedInto}
-use Rattle.record.proofs.AxisLaws.{axis-long}
+use Rattle.record_axis.specs.Tags.{depthTag, widthTag, turnTag}
+use Rattle.record.specs.Tags.{endTag}
+use Rattle.record_axis.specs.AxisFields.{frontBytes, settingBytes, axisBytes, axisLength}
+use Rattle.record_axis.specs.Limits.{withinLimits}
+use Rattle.record.specs.Record.{recordOf, savedAs, written, SavedInto}
+use Rattle.record_axis.proofs.AxisLaws.{axis-long}
 
 -- The fields of an axis, put one after another.
 module _ (s : Saved) {bits : ℕ} {b m d : List ℕ} {at j r : ℕ} (e : bits ≡ ofZ w64 (s .position)) where

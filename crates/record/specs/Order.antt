@@ -8,14 +8,15 @@ use lib.Dec.{eqb}
 use lib.ListN.{length}
 use Rattle.refusal.specs.declared.Refusal.the-variants.{Value, Layout, Record}
 use Rattle.axis.specs.Kind.{counterKind}
-use Rattle.record.specs.declared.answer.Saved.{Saved}
+use Rattle.record_axis.specs.declared.saved.Saved.{Saved}
 use Rattle.record.specs.declared.answer.Read.{Read}
 use Rattle.record.specs.declared.answer.Read.the-variants.{Accepted, Refused}
 use Rattle.tagged.specs.Bytes.{numberAt, starts}
 use Rattle.record.specs.Opening.{opening}
-use Rattle.record.specs.Tags.{layoutTag, kindTag, positionTag, depthTag, widthTag, turnTag, endTag}
-use Rattle.record.specs.AxisFields.{knownKind, counterAs, sampledAs}
-use Rattle.record.specs.Record.{saying, withinLimits}
+use Rattle.record_axis.specs.Tags.{kindTag, positionTag, depthTag, widthTag, turnTag}
+use Rattle.record.specs.Tags.{layoutTag, endTag}
+use Rattle.record_axis.specs.AxisFields.{knownKind, counterAs, sampledAs}
+use Rattle.record_axis.specs.Limits.{saying, withinLimits}
 use Rattle.tagged.specs.Field.{standsAt}
 
 -- Whether a slice opens 01 00 02 with two more bytes that are not 00 01.

@@ -6,29 +6,26 @@ use Prim.Native.Nat.{ℕ}
 use lib.Dec.{eqb, leb}
 use lib.ListN.{length, take}
 use lib.Seq.{sets}
-use mir.Syntax.{w64}
-use mir.Val.{toZ}
 use Rattle.refusal.specs.declared.Refusal.{Refusal}
 use Rattle.refusal.specs.declared.Refusal.the-variants.{Value, Room, Layout, Record}
-use Rattle.position.specs.Position.{inRange}
 use Rattle.axis.specs.Kind.{counterKind}
-use Rattle.axis.specs.Config.{goodConfig}
 use Rattle.axis.specs.declared.config.Config.{Config}
 use Rattle.tagged.specs.declared.field.Field.{Field}
 use Rattle.tagged.specs.declared.field.Field.the-variants.{Value as Of, Bad}
 use Rattle.tagged.specs.Bytes.{starts}
 use Rattle.tagged.specs.Field.{fieldAt, fieldBytes}
-use Rattle.record.specs.declared.answer.Saved.{Saved}
+use Rattle.record_axis.specs.declared.saved.Saved.{Saved}
 use Rattle.record.specs.declared.answer.Read.{Read}
 use Rattle.record.specs.declared.answer.Read.the-variants.{Accepted, Refused}
 use Rattle.record.specs.declared.answer.Tested.{Tested}
 use Rattle.record.specs.declared.answer.Written.{Written}
 use Rattle.record.specs.declared.answer.Written.the-variants.{Bytes, Refused as Unwritten}
-use Rattle.record.specs.declared.axis_fields.AxisRead.{AxisRead}
-use Rattle.record.specs.declared.axis_fields.AxisRead.the-variants.{Said, Refused as Unsaid}
+use Rattle.record_axis.specs.declared.axis_fields.AxisRead.{AxisRead}
+use Rattle.record_axis.specs.declared.axis_fields.AxisRead.the-variants.{Said, Refused as Unsaid}
 use Rattle.record.specs.Opening.{opening}
 use Rattle.record.specs.Tags.{layoutTag, endTag}
-use Rattle.record.specs.AxisFields.{onField, axisAt, axisBytes}
+use Rattle.record_axis.specs.AxisFields.{onField, axisAt, axisBytes}
+use Rattle.record_axis.specs.Limits.{withinLimits, saying}
 use Rattle.record.specs.Answer.{testedOf}
 
 -- ---- reading
@@ -45,14 +42,6 @@ layoutFound Bad = Record
 -- The LAYOUT refusal of a slice without the opening, or RECORD where it has no layout field.
 unfoldable pub layoutRefusal : List ℕ → Refusal
 layoutRefusal s = layoutFound (fieldAt s 0 layoutTag 2)
-
--- Whether a configuration and a position are within their limits.
-unfoldable pub withinLimits : Saved → Bool
-withinLimits s = goodConfig (s .config .kind) (s .config .depth) (s .config .width) (s .config .turn) && inRange (s .position)
-
--- What a configuration and the 64 bits of a position, in two's complement, say.
-abbrev pub saying : Config → ℕ → Saved
-saying c bits = record { config = c; position = toZ w64 bits }
 
 -- The end field with nothing after it, and then the limits.
 unfoldable pub endedAt : List ℕ → ℕ → Config → ℕ → Read

@@ -1,29 +1,9 @@
--- The tags of a record's fields: document 01, "The saved record".
+-- The tags of a record's first field and of its last: document 01, "The saved record".
 use Prim.Native.Nat.{ℕ}
 
 -- The layout number.
 abbrev pub layoutTag : ℕ
 layoutTag = 1
-
--- The kind of an axis.
-abbrev pub kindTag : ℕ
-kindTag = 2
-
--- Its position.
-abbrev pub positionTag : ℕ
-positionTag = 3
-
--- The depth of a sampled axis.
-abbrev pub depthTag : ℕ
-depthTag = 4
-
--- The width of a counter.
-abbrev pub widthTag : ℕ
-widthTag = 5
-
--- The counts per turn of a sampled axis.
-abbrev pub turnTag : ℕ
-turnTag = 6
 
 -- The end.
 abbrev pub endTag : ℕ

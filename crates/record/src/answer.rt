@@ -1,12 +1,6 @@
-// What a record says, and what reading, testing and saving one answer.
-use axis::config::Config;
+// What reading, testing and saving a record answer.
+use record_axis::saved::Saved;
 use refusal::Refusal;
-
-// What a record says: a configuration and a position.
-pub struct Saved {
-    pub config: Config,
-    pub position: i64,
-}
 
 // What a reading makes of a record, or why it is refused.
 pub enum Read {

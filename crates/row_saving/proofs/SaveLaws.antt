@@ -29,12 +29,13 @@ use Rattle.axis.proofs.ConfigLaws.{sampled-passes}
 use Rattle.axis_sound.proofs.SoundLaws.{sampled-gives, counter-gives, counter-config, packed-again}
 use Rattle.tagged.specs.Bytes.{AllBytes}
 use Rattle.record.specs.Answer.{writtenNumber}
-use Rattle.record.specs.Record.{withinLimits, readAs, recordOf, savedAs, written}
-use Rattle.record.specs.declared.answer.Saved.{Saved}
+use Rattle.record_axis.specs.Limits.{withinLimits}
+use Rattle.record.specs.Record.{readAs, recordOf, savedAs, written}
+use Rattle.record_axis.specs.declared.saved.Saved.{Saved}
 use Rattle.record.specs.declared.answer.Read.{Read}
 use Rattle.record.specs.declared.answer.Read.the-variants.{Accepted, Refused as Unread}
 use Rattle.record.specs.declared.answer.Written.the-variants.{Bytes, Refused as Unwritten}
-use Rattle.record.proofs.LimitsLaws.{within-parts}
+use Rattle.record_axis.proofs.LimitsLaws.{within-parts}
 use Rattle.record.proofs.RecordLaws.{read-back, one-encoding, accepted-within, saved-front}
 use Rattle.row_calls.specs.Change.{changed, presetAxis, Holds}
 use Rattle.row_calls.specs.Reasons.{StatusReasons}

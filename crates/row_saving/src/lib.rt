@@ -9,8 +9,8 @@ use axis_packing::pack::pack;
 use axis_sound::Status;
 use axis_sound::open;
 use record::answer::Read;
-use record::answer::Saved;
 use record::answer::Written;
+use record_axis::saved::Saved;
 use refusal::Refusal;
 use row_calls::answer::Changed;
 

@@ -15,8 +15,9 @@ use Rattle.axis_sound.specs.Sound.{statusOf}
 use Rattle.axis.specs.declared.row.Row.{Row}
 use Rattle.axis_sound.specs.declared.Status.{Status}
 use Rattle.axis_sound.specs.declared.Status.the-variants.{Empty, Sampled, Counter, Broken}
-use Rattle.record.specs.Record.{withinLimits, recordOf, savedAs, written}
-use Rattle.record.specs.declared.answer.Saved.{Saved}
+use Rattle.record_axis.specs.Limits.{withinLimits}
+use Rattle.record.specs.Record.{recordOf, savedAs, written}
+use Rattle.record_axis.specs.declared.saved.Saved.{Saved}
 use Rattle.record.specs.declared.answer.Written.the-variants.{Bytes, Refused as Unwritten}
 use Rattle.record.proofs.RecordLaws.{saved-front, refused-kept}
 use Rattle.row_calls.specs.Calls.{byStatus}

@@ -8,8 +8,8 @@ use mir.Val.{SFits, ofZ}
 use Rattle.integers.proofs.Machine.{back}
 use Rattle.tagged.specs.Bytes.{bytesOf}
 use Rattle.tagged.specs.Field.{fieldBytes}
-use Rattle.record.specs.AxisFields.{frontBytes, axisLength}
-use Rattle.record.proofs.AxisLaws.{length-bounds}
+use Rattle.record_axis.specs.AxisFields.{frontBytes, axisLength}
+use Rattle.record_axis.proofs.AxisLaws.{length-bounds}
 use Rattle.record.proofs.WriterLaws.{puts-counter, puts-sampled}
 use borrow.Author.Needs.{needs}
 use Rattle.record_writer.proofs.put_axis.Statement.{statement}

@@ -2,7 +2,7 @@ use native.Mathlib.Omega.{arith}
 use Rattle.tagged.specs.Bytes.{bytesOf}
 use Rattle.tagged.specs.Field.{fieldBytes}
 use Rattle.tagged.proofs.StoreLaws.{puts-then}
-use Rattle.record.specs.AxisFields.{frontBytes}
+use Rattle.record_axis.specs.AxisFields.{frontBytes}
 use borrow.Author.Needs.{needs}
 use Rattle.record_writer.proofs.put_front.Statement.{statement}
 use Rattle.record_writer.proofs.put_front.Tie as tie

@@ -2,8 +2,8 @@ use mathlib.Core.Path.{_≡_, sym, _∙_}
 use mathlib.Core.Bool.{true}
 use native.Mathlib.Omega.{arith}
 use borrow.Author.Tests.{not-true, not-false}
-use Rattle.record.specs.Record.{withinLimits}
-use Rattle.record.proofs.AxisLaws.{axis-long, length-bounds}
+use Rattle.record_axis.specs.Limits.{withinLimits}
+use Rattle.record_axis.proofs.AxisLaws.{axis-long, length-bounds}
 use Rattle.record.proofs.WriterLaws.{outside, no-room, wrote, puts-record}
 use borrow.Author.Needs.{needs}
 use Rattle.record_writer.proofs.save.Statement.{statement}

@@ -5,10 +5,10 @@ use Rattle.position.specs.Position.{inRange}
 use Rattle.axis.specs.Config.{goodConfig}
 use Rattle.axis.specs.Row.{rowOf, freshAt, Narrow}
 use Rattle.axis_sound.proofs.SoundLaws.{setup-held}
-use Rattle.record.specs.declared.answer.Saved.{Saved}
+use Rattle.record_axis.specs.declared.saved.Saved.{Saved}
 use Rattle.record.specs.declared.answer.Read.the-variants.{Accepted}
 use Rattle.record.specs.Record.{readAs}
-use Rattle.record.proofs.LimitsLaws.{within-parts}
+use Rattle.record_axis.proofs.LimitsLaws.{within-parts}
 use Rattle.record.proofs.RecordLaws.{accepted-within}
 use Rattle.row_calls.specs.declared.answer.Changed.the-variants.{To}
 use Rattle.row_saving.specs.Saving.{restoreRow, restoredBy}

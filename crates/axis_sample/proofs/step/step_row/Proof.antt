@@ -24,16 +24,19 @@ returns c =
     let g = sampled-opens (b .r) _ (x .axis-in .ensures) (sym (s .is-sampled .ensures) ∙ c .before .if1 .taken) in
     c .step-sampled .ensures ∙ ap (λ (a : Axis). packed (stepAxis a (rawOf (b .nibble)))) (g .1) ∙ sym (row-steps (b .r) (b .nibble) (g .0))
 
+is-broken-requires : tie.Need-is-broken-requires
+is-broken-requires c κs = sym (c .before .is-sampled .ensures) ∙ c .if1 .left
+
 returns-2 : tie.Need-returns-2
 returns-2 c =
-    let s = c .before .before .before in
-    let b = s .before .before .args in
+    let o = c .before .before in
+    let b = o .before .before .before .args in
     rw (c .keep .ensures, c .before .is-broken .ensures)
-    (sym (other-stays (b .r) (b .nibble) (sym (s .is-sampled .ensures) ∙ c .before .before .if1 .left)))
+    (sym (other-stays (b .r) (b .nibble) (sym (o .before .is-sampled .ensures) ∙ o .if1 .left)))
 
 pub step-row-spec : {M : Type 1} → statement M
 step-row-spec =
     tie.close
     (tie.spec
-    (λ c κs. search needs) (λ c κs. search needs) step-sampled-requires returns (λ c κs. search needs)
-    (λ c κs. search needs) returns-2)
+    (λ c κs. search needs) (λ c κs. search needs) step-sampled-requires returns is-broken-requires (λ c κs. search needs)
+    returns-2)

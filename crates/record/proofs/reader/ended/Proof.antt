@@ -12,7 +12,8 @@ use mir.Facts.{sfits-toZ}
 use Rattle.integers.proofs.Machine.{back}
 use Rattle.record.specs.declared.answer.Read.the-variants.{Accepted}
 use Rattle.tagged.specs.declared.field.Field.the-variants.{Value}
-use Rattle.record.specs.Record.{endedAt, withinLimits, saying}
+use Rattle.record_axis.specs.Limits.{withinLimits, saying}
+use Rattle.record.specs.Record.{endedAt}
 use Rattle.record.specs.Tags.{endTag}
 use Rattle.tagged.specs.Field.{fieldAt}
 use Rattle.record.proofs.reader.ended.Statement.{statement}

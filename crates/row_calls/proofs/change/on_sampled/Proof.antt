@@ -1,4 +1,4 @@
-use mathlib.Core.Path.{sym, ap, _∙_}
+use mathlib.Core.Path.{ap}
 use Rattle.row_calls.specs.declared.answer.Changed.the-variants.{To}
 use borrow.Author.Needs.{needs}
 use Rattle.row_calls.proofs.change.on_sampled.Statement.{statement}

@@ -14,11 +14,11 @@ use Rattle.position.proofs.PositionLaws.{range-is}
 use Rattle.axis.specs.declared.config.Config.{Config}
 use Rattle.axis.specs.Kind.{X1, X2, X4, COUNTER, sampledKind, counterKind}
 use Rattle.axis.specs.Config.{sampledConfig, counterConfig, goodConfig}
-use Rattle.record.specs.declared.answer.Saved.{Saved}
+use Rattle.record_axis.specs.declared.saved.Saved.{Saved}
 use Rattle.axis.proofs.TestLaws.{both as and-true}
 use Rattle.axis.proofs.ConfigLaws.{sampled-setting, counter-setting}
-use Rattle.record.specs.AxisFields.{knownKind}
-use Rattle.record.specs.Record.{withinLimits}
+use Rattle.record_axis.specs.AxisFields.{knownKind}
+use Rattle.record_axis.specs.Limits.{withinLimits}
 
 -- ---- either of two tests
 

@@ -8,10 +8,10 @@ use mir.Val.{Fits}
 use Rattle.tagged.specs.declared.field.Field.the-variants.{Value}
 use Rattle.tagged.specs.Field.{fieldAt}
 use Rattle.tagged.proofs.FieldLaws.{field-below}
-use Rattle.record.specs.Tags.{kindTag, positionTag}
-use Rattle.record.specs.AxisFields.{axisAt, knownKind}
-use Rattle.record.proofs.axis_fields.read_axis.Statement.{statement}
-use Rattle.record.proofs.axis_fields.read_axis.Tie as tie
+use Rattle.record_axis.specs.Tags.{kindTag, positionTag}
+use Rattle.record_axis.specs.AxisFields.{axisAt, knownKind}
+use Rattle.record_axis.proofs.axis_fields.read_axis.Statement.{statement}
+use Rattle.record_axis.proofs.axis_fields.read_axis.Tie as tie
 
 module _ (c : tie.After-kind) where
   abbrev start : tie.Start

@@ -10,10 +10,10 @@ use Rattle.axis.specs.declared.config.Config.{Config}
 use Rattle.tagged.specs.declared.field.Field.{Field}
 use Rattle.tagged.specs.declared.field.Field.the-variants.{Value as Of, Bad}
 use Rattle.tagged.specs.Field.{fieldAt, fieldBytes}
-use Rattle.record.specs.declared.answer.Saved.{Saved}
-use Rattle.record.specs.declared.axis_fields.AxisRead.{AxisRead}
-use Rattle.record.specs.declared.axis_fields.AxisRead.the-variants.{Said, Refused}
-use Rattle.record.specs.Tags.{kindTag, positionTag, depthTag, widthTag, turnTag}
+use Rattle.record_axis.specs.declared.saved.Saved.{Saved}
+use Rattle.record_axis.specs.declared.axis_fields.AxisRead.{AxisRead}
+use Rattle.record_axis.specs.declared.axis_fields.AxisRead.the-variants.{Said, Refused}
+use Rattle.record_axis.specs.Tags.{kindTag, positionTag, depthTag, widthTag, turnTag}
 
 -- ---- reading
 

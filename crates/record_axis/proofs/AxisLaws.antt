@@ -16,20 +16,29 @@ use Rattle.refusal.specs.declared.Refusal.{Refusal}
 use Rattle.refusal.specs.declared.Refusal.the-variants.{Value as VALUE, Record}
 use Rattle.axis.specs.Kind.{COUNTER, counterKind}
 use Rattle.axis.specs.declared.config.Config.{Config}
-use Rattle.tagged.specs.declared.field.Field.the-variants.{Value}
+use Rattle.tagged.specs.declared.field.Field.the-variants.{Value, Bad}
 use Rattle.tagged.specs.Bytes.{AllBytes, numberAt, bytesOf}
 use Rattle.tagged.specs.Field.{standsAt, fieldAt, fieldBytes}
 use Rattle.tagged.proofs.BytesLaws.{number-below}
 use Rattle.tagged.proofs.FieldLaws.{field-back, stands-is}
-use Rattle.record.specs.declared.answer.Saved.{Saved}
-use Rattle.record.specs.declared.axis_fields.AxisRead.{AxisRead}
-use Rattle.record.specs.declared.axis_fields.AxisRead.the-variants.{Said, Refused}
-use Rattle.record.specs.Tags.{kindTag, positionTag, depthTag, widthTag, turnTag}
-use Rattle.record.specs.AxisFields.{knownKind, counterAs, sampledAs, counterAt, sampledAt, axisAt}
-use Rattle.record.specs.AxisFields.{frontBytes, settingBytes, axisBytes, axisLength}
-use Rattle.record.specs.Record.{withinLimits, saying}
-use Rattle.record.proofs.OrderLaws.{on-field}
-use Rattle.record.proofs.LimitsLaws.{sampled-kind, known-counter, SoundConfig, sampled, counter, within-config, within-position}
+use Rattle.record_axis.specs.declared.saved.Saved.{Saved}
+use Rattle.record_axis.specs.declared.axis_fields.AxisRead.{AxisRead}
+use Rattle.record_axis.specs.declared.axis_fields.AxisRead.the-variants.{Said, Refused}
+use Rattle.record_axis.specs.Tags.{kindTag, positionTag, depthTag, widthTag, turnTag}
+use Rattle.record_axis.specs.AxisFields.{onField, knownKind, counterAs, sampledAs, counterAt, sampledAt, axisAt}
+use Rattle.record_axis.specs.AxisFields.{frontBytes, settingBytes, axisBytes, axisLength}
+use Rattle.record_axis.specs.Limits.{withinLimits, saying}
+use Rattle.record_axis.proofs.LimitsLaws.{sampled-kind, known-counter, SoundConfig, sampled, counter, within-config, within-position}
+
+-- A field's answer is a check.
+pub on-field : {A : Type 0} (s : List ℕ) (at tag n : ℕ) (r : A) (k : ℕ → ℕ → A) →
+    onField r (fieldAt s at tag n) k ≡ cond (standsAt s at tag n) (k (numberAt s (at + 3) n) (at + 3 + n)) r
+unfolding fieldAt
+on-field s at tag n r k = go (standsAt s at tag n)
+  where
+    go : (t : Bool) → onField r (cond t (Value (numberAt s (at + 3) n) (at + 3 + n)) Bad) k ≡ cond t (k (numberAt s (at + 3) n) (at + 3 + n)) r
+    go true = refl
+    go false = refl
 
 -- HEADLINE: an axis's fields are 19 bytes for a counter, else 26.
 pub axis-long : (s : Saved) → length (axisBytes s) ≡ axisLength (s .config .kind)

@@ -1,6 +1,6 @@
 // The fields of one axis, 02 to 06, read at any place of a slice as plain numbers, whatever their limits.
 ghost use mathlib.Core.Path.{_≡_};
-ghost use Rattle.record.specs.AxisFields.{counterAt, sampledAt, knownKind, axisAt};
+ghost use Rattle.record_axis.specs.AxisFields.{counterAt, sampledAt, knownKind, axisAt};
 use crate::tags::DEPTH;
 use crate::tags::KIND;
 use crate::tags::POSITION;

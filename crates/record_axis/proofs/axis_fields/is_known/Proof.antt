@@ -1,6 +1,6 @@
 use borrow.Author.Needs.{needs}
-use Rattle.record.proofs.axis_fields.is_known.Statement.{statement}
-use Rattle.record.proofs.axis_fields.is_known.Tie as tie
+use Rattle.record_axis.proofs.axis_fields.is_known.Statement.{statement}
+use Rattle.record_axis.proofs.axis_fields.is_known.Tie as tie
 
 returns : tie.Need-returns
 returns c = rw (c .before .is-sampled .ensures, c .is-counter .ensures)

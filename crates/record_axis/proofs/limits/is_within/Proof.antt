@@ -2,9 +2,9 @@ use borrow.Author.Needs.{needs}
 use mir.Syntax.{w64}
 use mir.Val.{SFits}
 use Rattle.integers.proofs.Machine.{back}
-use Rattle.record.specs.Record.{withinLimits}
-use Rattle.record.proofs.limits.is_within.Statement.{statement}
-use Rattle.record.proofs.limits.is_within.Tie as tie
+use Rattle.record_axis.specs.Limits.{withinLimits}
+use Rattle.record_axis.proofs.limits.is_within.Statement.{statement}
+use Rattle.record_axis.proofs.limits.is_within.Tie as tie
 
 returns : tie.Need-returns
 unfolding withinLimits

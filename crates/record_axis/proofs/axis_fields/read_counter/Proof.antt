@@ -2,12 +2,12 @@ use borrow.Author.Needs.{needs}
 use mathlib.Core.Path.{_≡_, sym, _∙_}
 use Rattle.tagged.specs.declared.field.Field.the-variants.{Value}
 use Rattle.tagged.specs.Bytes.{AllBytes}
-use Rattle.record.specs.AxisFields.{counterAt}
-use Rattle.record.specs.Tags.{widthTag}
+use Rattle.record_axis.specs.AxisFields.{counterAt}
+use Rattle.record_axis.specs.Tags.{widthTag}
 use Rattle.tagged.specs.Field.{fieldAt}
 use Rattle.tagged.proofs.FieldLaws.{field-below}
-use Rattle.record.proofs.axis_fields.read_counter.Statement.{statement}
-use Rattle.record.proofs.axis_fields.read_counter.Tie as tie
+use Rattle.record_axis.proofs.axis_fields.read_counter.Statement.{statement}
+use Rattle.record_axis.proofs.axis_fields.read_counter.Tie as tie
 
 module _ (c : tie.After-width) where
   abbrev start : tie.Start

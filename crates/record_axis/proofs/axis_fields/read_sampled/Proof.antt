@@ -2,12 +2,12 @@ use borrow.Author.Needs.{needs}
 use mathlib.Core.Path.{_≡_, sym, _∙_}
 use Rattle.tagged.specs.declared.field.Field.the-variants.{Value}
 use Rattle.tagged.specs.Bytes.{AllBytes}
-use Rattle.record.specs.AxisFields.{sampledAt}
-use Rattle.record.specs.Tags.{depthTag, turnTag}
+use Rattle.record_axis.specs.AxisFields.{sampledAt}
+use Rattle.record_axis.specs.Tags.{depthTag, turnTag}
 use Rattle.tagged.specs.Field.{fieldAt}
 use Rattle.tagged.proofs.FieldLaws.{field-below}
-use Rattle.record.proofs.axis_fields.read_sampled.Statement.{statement}
-use Rattle.record.proofs.axis_fields.read_sampled.Tie as tie
+use Rattle.record_axis.proofs.axis_fields.read_sampled.Statement.{statement}
+use Rattle.record_axis.proofs.axis_fields.read_sampled.Tie as tie
 
 module _ (c : tie.After-depth) where
   abbrev start : tie.Start

@@ -1,7 +1,7 @@
 // The limits of what a record says: those of the configuration and those of the position, each from its own home.
 ghost use mathlib.Core.Path.{_≡_};
-ghost use Rattle.record.specs.Record.{withinLimits};
-use crate::answer::Saved;
+ghost use Rattle.record_axis.specs.Limits.{withinLimits};
+use crate::saved::Saved;
 
 // Whether a configuration and a position are within their limits.
 pub fn is_within(saved: Saved) -> bool

@@ -1,0 +1,2 @@
+pub mod LimitsLaws
+pub mod AxisLaws
