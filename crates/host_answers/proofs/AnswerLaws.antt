@@ -12,10 +12,11 @@ use Rattle.reckon.proofs.SpeedLaws.{speed-one-number}
 use Rattle.record.specs.declared.answer.Tested.{Tested}
 use Rattle.record.specs.declared.answer.Written.{Written}
 use Rattle.record.proofs.AnswerLaws.{test-told, save-told}
-use Rattle.row_calls.specs.Answer.{viewValue}
+use Rattle.row_view.specs.View.{viewValue}
 use Rattle.row_calls.specs.declared.answer.Done.{Done}
-use Rattle.row_calls.specs.declared.answer.Viewed.{Viewed}
-use Rattle.row_calls.proofs.AnswerLaws.{done-told, view-told}
+use Rattle.row_view.specs.declared.answer.Viewed.{Viewed}
+use Rattle.row_calls.proofs.AnswerLaws.{done-told}
+use Rattle.row_view.proofs.ViewLaws.{view-told}
 use Rattle.table_port.specs.declared.Sampled.{Sampled}
 use Rattle.table_port.proofs.AnswerLaws.{sample-told}
 use Rattle.host_answers.specs.declared.answer.Answer.{Answer}

@@ -10,9 +10,10 @@ use Rattle.reckon.specs.declared.speed.Speed.{Speed}
 use Rattle.record.specs.Answer.{testedNumber, testedFound, writtenNumber, writtenFound, writtenBytes}
 use Rattle.record.specs.declared.answer.Tested.{Tested}
 use Rattle.record.specs.declared.answer.Written.{Written}
-use Rattle.row_calls.specs.Answer.{doneNumber, doneFound, viewNumber, viewFound, viewValue}
+use Rattle.row_calls.specs.Answer.{doneNumber, doneFound}
+use Rattle.row_view.specs.View.{viewNumber, viewFound, viewValue}
 use Rattle.row_calls.specs.declared.answer.Done.{Done}
-use Rattle.row_calls.specs.declared.answer.Viewed.{Viewed}
+use Rattle.row_view.specs.declared.answer.Viewed.{Viewed}
 use Rattle.table_port.specs.Port.{sampledNumber, sampledFound, sampledMasks}
 use Rattle.table_port.specs.declared.Sampled.{Sampled}
 use Rattle.host_answers.specs.declared.answer.Answer.{Answer}

@@ -2,7 +2,7 @@
 ghost use mathlib.Core.Path.{_≡_};
 ghost use Rattle.host_answers.specs.Answer.{answerView};
 use crate::answer::of_refusal;
-use row_calls::answer::Viewed;
+use row_view::answer::Viewed;
 
 // A view's answer: the refusal's number, the layout number found (0), and what the axis shows, each flag 0 or 1.
 #[repr(C)]

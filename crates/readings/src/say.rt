@@ -5,7 +5,7 @@ use reckon::speed::Speed;
 use record::answer::Written;
 use refusal::Refusal;
 use row_calls::answer::Done;
-use row_calls::answer::Viewed;
+use row_view::answer::Viewed;
 use text::put::size;
 
 fn text(bytes: &[u8]) {

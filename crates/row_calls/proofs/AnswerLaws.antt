@@ -3,9 +3,7 @@ use mathlib.Core.Path.{_≡_, refl, sym, ap}
 use Rattle.refusal.proofs.RefusalLaws.{told-apart, above-zero}
 use Rattle.row_calls.specs.declared.answer.Done.{Done}
 use Rattle.row_calls.specs.declared.answer.Done.the-variants.{Yes, Refused}
-use Rattle.row_calls.specs.declared.answer.Viewed.{Viewed}
-use Rattle.row_calls.specs.declared.answer.Viewed.the-variants.{Shows, Refused as Unseen}
-use Rattle.row_calls.specs.Answer.{doneNumber, doneFound, viewNumber, viewFound, viewValue}
+use Rattle.row_calls.specs.Answer.{doneNumber, doneFound}
 
 -- HEADLINE: two answers of a call that only says that it was done, with one number and one found number, are one answer.
 pub done-told : (a b : Done) → doneNumber a ≡ doneNumber b → doneFound a ≡ doneFound b → a ≡ b
@@ -13,10 +11,3 @@ done-told Yes Yes n f = refl
 done-told Yes (Refused e) n f = absurd (above-zero e (sym n))
 done-told (Refused e) Yes n f = absurd (above-zero e n)
 done-told (Refused e) (Refused d) n f = ap Refused (told-apart e d n f)
-
--- HEADLINE: two answers of a view with one number, one found number and one view are one answer.
-pub view-told : (a b : Viewed) → viewNumber a ≡ viewNumber b → viewFound a ≡ viewFound b → viewValue a ≡ viewValue b → a ≡ b
-view-told (Shows u) (Shows v) n f e = ap Shows e
-view-told (Shows u) (Unseen d) n f e = absurd (above-zero d (sym n))
-view-told (Unseen d) (Shows v) n f e = absurd (above-zero d n)
-view-told (Unseen d) (Unseen g) n f e = ap Unseen (told-apart d g n f)

@@ -12,19 +12,16 @@ use Rattle.refusal.specs.Order.{checked, After}
 use Rattle.refusal.proofs.RefusalLaws.{after-not, after-either}
 use Rattle.refusal.specs.declared.Refusal.{Refusal}
 use Rattle.refusal.specs.declared.Refusal.the-variants.{Broken as BROKEN, Empty as EMPTY, Kind as KIND, Value as VALUE}
-use Rattle.axis.specs.Row.{axisOf, rowOf, freshAt}
-use Rattle.axis_sound.specs.Sound.{statusOf, counterOf}
-use Rattle.axis.specs.declared.row.Axis.{Axis}
+use Rattle.axis.specs.Row.{axisOf, rowOf}
+use Rattle.axis_sound.specs.Sound.{statusOf}
 use Rattle.axis.specs.declared.row.Row.{Row}
 use Rattle.axis_sound.specs.declared.Status.{Status}
 use Rattle.axis_sound.specs.declared.Status.the-variants.{Empty, Sampled, Counter, Broken}
-use Rattle.axis_sound.proofs.SoundLaws.{counter-gives}
-use Rattle.row_calls.specs.Answer.{changedNumber, viewOf, viewNumber}
+use Rattle.row_calls.specs.Answer.{changedNumber}
 use Rattle.row_calls.specs.Change.{presetAxis, armAxis, acknowledgeAxis}
-use Rattle.row_calls.specs.Calls.{byStatus, placeRow, presetRow, armRow, acknowledgeRow, viewRow}
+use Rattle.row_calls.specs.Calls.{byStatus, placeRow, presetRow, armRow, acknowledgeRow}
 use Rattle.row_calls.specs.Reasons.{StatusReasons}
 use Rattle.row_calls.specs.declared.answer.Changed.the-variants.{To, Kept}
-use Rattle.row_calls.specs.declared.answer.Viewed.the-variants.{Shows, Refused as Unseen}
 use Rattle.row_calls.proofs.StatusLaws.{Live, either-kind}
 
 -- A number that is not another.
@@ -137,11 +134,6 @@ pub acknowledge-reasons : (r : Row) → StatusReasons (changedNumber (acknowledg
 unfolding acknowledgeRow Past
 acknowledge-reasons r = sampled-only changedNumber Kept (λ e. refl) (To (rowOf (acknowledgeAxis (axisOf r)))) (inl refl) (statusOf r)
 
--- HEADLINE: view takes both kinds.
-pub view-reasons : (r : Row) → StatusReasons (viewNumber (viewRow r)) (statusOf r) ⊥
-unfolding viewRow Past
-view-reasons r = let v = Shows (viewOf (axisOf r)) in both-kinds viewNumber Unseen (λ e. refl) v v (inl refl) (inl refl) (statusOf r)
-
 -- ---- what each call does on the rows that it takes
 
 -- HEADLINE: on a sampled row and on a counter a preset within the range is accepted, and any other is VALUE.
@@ -158,13 +150,3 @@ arm-is r e = rw e
 pub acknowledge-is : (r : Row) → statusOf r ≡ Sampled → acknowledgeRow r ≡ To (rowOf (acknowledgeAxis (axisOf r)))
 unfolding acknowledgeRow
 acknowledge-is r e = rw e
-
--- HEADLINE: on a sampled row and on a counter a view shows the axis.
-pub view-is : (r : Row) → Live r → viewRow r ≡ Shows (viewOf (axisOf r))
-unfolding viewRow
-view-is r l = either-kind Unseen (Shows (viewOf (axisOf r))) r l
-
--- HEADLINE: of a counter that is its kind and its position, and flags and doubles 0.
-pub view-counter : (r : Row) → statusOf r ≡ Counter →
-    viewRow r ≡ Shows (viewOf (freshAt (counterOf (axisOf r .config .width)) (axisOf r .word)))
-view-counter r e = view-is r (inr e) ∙ ap (λ (a : Axis). Shows (viewOf a)) (counter-gives r e .rest)

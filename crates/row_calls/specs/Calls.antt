@@ -1,4 +1,4 @@
--- What setup, erase, preset, arm, acknowledge and view make of the named row, and answer: document 01, "Calls that name one axis".
+-- What setup, erase, preset, arm and acknowledge make of the named row: document 01, "Calls that name one axis".
 use Prim.Native.Nat.{ℕ}
 use mathlib.Core.Bool.{cond}
 use lib.IntN.{ℤ}
@@ -14,13 +14,10 @@ use Rattle.axis.specs.declared.row.Row.{Row}
 use Rattle.axis_sound.specs.declared.Status.{Status}
 use Rattle.axis_sound.specs.declared.Status.the-variants.{Empty, Sampled, Counter, Broken}
 use Rattle.row_calls.specs.Change.{presetAxis, armAxis, acknowledgeAxis}
-use Rattle.row_calls.specs.Answer.{viewOf}
 use Rattle.row_calls.specs.declared.apply.Change.{Change}
 use Rattle.row_calls.specs.declared.apply.Change.the-variants.{Setup, Erase, Preset, Arm, Acknowledge}
 use Rattle.row_calls.specs.declared.answer.Changed.{Changed}
 use Rattle.row_calls.specs.declared.answer.Changed.the-variants.{To, Kept}
-use Rattle.row_calls.specs.declared.answer.Viewed.{Viewed}
-use Rattle.row_calls.specs.declared.answer.Viewed.the-variants.{Shows, Refused as Unseen}
 
 -- The refusals that a row's own state gives, in their order: BROKEN, EMPTY, and then what the call does on a sampled row and on a counter.
 abbrev pub byStatus : {A : Type 0} → (Refusal → A) → A → A → Status → A
@@ -75,10 +72,6 @@ armRow r = byStatus Kept (To (rowOf (armAxis (axisOf r)))) (Kept KIND) (statusOf
 -- Acknowledge, on a sampled row only.
 unfoldable pub acknowledgeRow : Row → Changed
 acknowledgeRow r = byStatus Kept (To (rowOf (acknowledgeAxis (axisOf r)))) (Kept KIND) (statusOf r)
-
--- The answer of a view, on a sampled row and on a counter.
-unfoldable pub viewRow : Row → Viewed
-viewRow r = byStatus Unseen (Shows (viewOf (axisOf r))) (Shows (viewOf (axisOf r))) (statusOf r)
 
 -- ---- these calls as data
 

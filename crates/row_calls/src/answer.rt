@@ -16,24 +16,6 @@ pub enum Done {
     Refused(Refusal),
 }
 
-// What a view shows of an axis.
-pub struct View {
-    pub kind: u8,
-    pub position: i64,
-    pub primed: bool,
-    pub armed: bool,
-    pub homed: bool,
-    pub range: bool,
-    pub index: bool,
-    pub doubles: u16,
-}
-
-// What a view answers.
-pub enum Viewed {
-    Shows(View),
-    Refused(Refusal),
-}
-
 // What a call that answers only that it was done says of what it made of the row.
 pub fn answered(c: Changed) -> Done
     ensures { λ r. ⌜ r ≡ doneOf c ⌝ }

@@ -17,7 +17,8 @@ use Rattle.axis.specs.declared.row.Row.{Row}
 use Rattle.record.specs.declared.answer.Written.{Written}
 use Rattle.record.specs.declared.answer.Written.the-variants.{Refused as Unwritten}
 use Rattle.row_calls.specs.Answer.{doneOf}
-use Rattle.row_calls.specs.Calls.{changeRow, setupRow, eraseRow, presetRow, armRow, acknowledgeRow, viewRow}
+use Rattle.row_calls.specs.Calls.{changeRow, setupRow, eraseRow, presetRow, armRow, acknowledgeRow}
+use Rattle.row_view.specs.View.{viewRow}
 use Rattle.row_saving.specs.Saving.{saveRow, savedIn, restoreRow}
 use Rattle.row_speed.specs.Speed.{speedRow}
 use Rattle.row_counter.specs.Reading.{readingRow}
@@ -27,8 +28,8 @@ use Rattle.row_calls.specs.declared.answer.Changed.{Changed}
 use Rattle.row_calls.specs.declared.answer.Changed.the-variants.{Kept}
 use Rattle.row_calls.specs.declared.answer.Done.{Done}
 use Rattle.row_calls.specs.declared.answer.Done.the-variants.{Yes, Refused as Undone}
-use Rattle.row_calls.specs.declared.answer.Viewed.{Viewed}
-use Rattle.row_calls.specs.declared.answer.Viewed.the-variants.{Shows, Refused as Unseen}
+use Rattle.row_view.specs.declared.answer.Viewed.{Viewed}
+use Rattle.row_view.specs.declared.answer.Viewed.the-variants.{Shows, Refused as Unseen}
 use Rattle.table_rows.specs.Located.{located, onFound}
 use Rattle.table_rows.specs.declared.Located.{Located}
 use Rattle.table_rows.specs.declared.Located.the-variants.{At, Refused}

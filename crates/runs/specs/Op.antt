@@ -7,7 +7,8 @@ use lib.ListN.{length}
 use Rattle.refusal.specs.declared.Refusal.{Refusal}
 use Rattle.axis.specs.declared.row.Row.{Row}
 use Rattle.row_calls.specs.Answer.{doneOf}
-use Rattle.row_calls.specs.Calls.{leftBy, changeRow, viewRow}
+use Rattle.row_calls.specs.Calls.{leftBy, changeRow}
+use Rattle.row_view.specs.View.{viewRow}
 use Rattle.row_saving.specs.Saving.{saveRow, savedIn, restoreRow}
 use Rattle.row_speed.specs.Speed.{speedRow}
 use Rattle.row_counter.specs.Reading.{readingRow, readRow}

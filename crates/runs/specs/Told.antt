@@ -14,9 +14,9 @@ use Rattle.record.specs.declared.answer.Written.{Written}
 use Rattle.record.specs.declared.answer.Written.the-variants.{Bytes, Refused as Unwritten}
 use Rattle.row_calls.specs.declared.answer.Done.{Done}
 use Rattle.row_calls.specs.declared.answer.Done.the-variants.{Yes, Refused as Undone}
-use Rattle.row_calls.specs.declared.answer.View.{View}
-use Rattle.row_calls.specs.declared.answer.Viewed.{Viewed}
-use Rattle.row_calls.specs.declared.answer.Viewed.the-variants.{Shows, Refused as Unseen}
+use Rattle.row_view.specs.declared.answer.View.{View}
+use Rattle.row_view.specs.declared.answer.Viewed.{Viewed}
+use Rattle.row_view.specs.declared.answer.Viewed.the-variants.{Shows, Refused as Unseen}
 
 -- An axis's bits of the three masks: double step, index rise, broken row.
 pub record Marks : Type 0 where

@@ -33,15 +33,17 @@ use Rattle.record.specs.Record.{readAs}
 use Rattle.record.specs.declared.answer.Read.{Read}
 use Rattle.record.specs.declared.answer.Written.the-variants.{Refused as Unwritten}
 use Rattle.record.proofs.OrderLaws.{exactly}
-use Rattle.row_calls.specs.Answer.{doneOf, doneNumber, changedNumber, viewNumber}
-use Rattle.row_calls.specs.Calls.{byStatus, setupRow, eraseRow, presetRow, armRow, acknowledgeRow, viewRow}
+use Rattle.row_calls.specs.Answer.{doneOf, doneNumber, changedNumber}
+use Rattle.row_view.specs.View.{viewNumber}
+use Rattle.row_calls.specs.Calls.{byStatus, setupRow, eraseRow, presetRow, armRow, acknowledgeRow}
+use Rattle.row_view.specs.View.{viewRow}
 use Rattle.row_saving.specs.Saving.{savedOf, saveRow, restoreRow, restoredBy}
 use Rattle.row_speed.specs.Speed.{speedRow}
 use Rattle.row_counter.specs.Reading.{readingRow}
 use Rattle.row_calls.specs.declared.answer.Changed.{Changed}
 use Rattle.row_calls.specs.declared.answer.Changed.the-variants.{Kept}
 use Rattle.row_calls.specs.declared.answer.Done.{Done}
-use Rattle.row_calls.specs.declared.answer.Viewed.the-variants.{Refused as Unseen}
+use Rattle.row_view.specs.declared.answer.Viewed.the-variants.{Refused as Unseen}
 use Rattle.row_calls.proofs.ReasonLaws.{Past, place-past}
 use Rattle.row_speed.proofs.SpeedLaws.{speed-past}
 use Rattle.row_saving.proofs.SaveLaws.{save-past}

@@ -9,7 +9,7 @@ use Rattle.record.specs.declared.answer.Written.{Written}
 use Rattle.axis.specs.declared.row.Row.{Row}
 use Rattle.row_calls.specs.declared.answer.Changed.{Changed}
 use Rattle.row_calls.specs.declared.answer.Done.{Done}
-use Rattle.row_calls.specs.declared.answer.Viewed.{Viewed}
+use Rattle.row_view.specs.declared.answer.Viewed.{Viewed}
 use Rattle.table.specs.Call.{Makes, viewedIn, ReadingMakes, speedIn, SaveMakes}
 
 -- HEADLINE: setup, erase, preset, arm, acknowledge and restore, each by its rule, have one outcome.

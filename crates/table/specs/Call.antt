@@ -12,15 +12,15 @@ use Rattle.record.specs.declared.answer.Written.{Written}
 use Rattle.record.specs.declared.answer.Written.the-variants.{Refused as Unwritten}
 use Rattle.axis.specs.declared.row.Row.{Row}
 use Rattle.row_calls.specs.Answer.{doneOf}
-use Rattle.row_calls.specs.Calls.{viewRow}
+use Rattle.row_view.specs.View.{viewRow}
 use Rattle.row_saving.specs.Saving.{saveRow, savedIn}
 use Rattle.row_speed.specs.Speed.{speedRow}
 use Rattle.row_counter.specs.Reading.{readingRow, readRow}
 use Rattle.row_calls.specs.declared.answer.Changed.{Changed}
 use Rattle.row_calls.specs.declared.answer.Changed.the-variants.{To, Kept}
 use Rattle.row_calls.specs.declared.answer.Done.{Done}
-use Rattle.row_calls.specs.declared.answer.Viewed.{Viewed}
-use Rattle.row_calls.specs.declared.answer.Viewed.the-variants.{Refused as Unseen}
+use Rattle.row_view.specs.declared.answer.Viewed.{Viewed}
+use Rattle.row_view.specs.declared.answer.Viewed.the-variants.{Refused as Unseen}
 use Rattle.table_rows.specs.Table.{rowAt, setRow}
 use Rattle.table_rows.specs.Located.{located, onFound}
 

@@ -2,7 +2,7 @@
 ghost use mathlib.Core.Path.{_≡_};
 ghost use Rattle.table.specs.Call.{viewedIn, speedIn};
 use reckon::speed::Speed;
-use row_calls::answer::Viewed;
+use row_view::answer::Viewed;
 use table_rows::Located;
 use table_rows::locate;
 
@@ -12,7 +12,7 @@ pub fn view(table: &[u64], axis: u64) -> Viewed
 {
     match locate(table, axis) {
         Located::Refused(e) => Viewed::Refused(e),
-        Located::At(row) => row_calls::view::view(row),
+        Located::At(row) => row_view::view(row),
     }
 }
 

@@ -21,9 +21,10 @@ use Rattle.axis_sound.specs.declared.Status.the-variants.{Sampled}
 use Rattle.axis_sound.proofs.SoundLaws.{setup-sound}
 use Rattle.axis_sample.specs.Step.{stepRow}
 use Rattle.axis_sample.proofs.RowLaws.{status-after}
-use Rattle.row_calls.specs.Answer.{viewOf}
-use Rattle.row_calls.specs.Calls.{configOf, setupRow, viewRow}
-use Rattle.row_calls.specs.declared.answer.Viewed.the-variants.{Shows}
+use Rattle.row_view.specs.View.{viewOf}
+use Rattle.row_calls.specs.Calls.{configOf, setupRow}
+use Rattle.row_view.specs.View.{viewRow}
+use Rattle.row_view.specs.declared.answer.Viewed.the-variants.{Shows}
 use Rattle.table_rows.specs.Table.{axesIn, rowAt, setRow}
 use Rattle.table_rows.specs.Located.{located}
 use Rattle.table_port.specs.Port.{nibble, sampledTo, sampledTable}

@@ -7,9 +7,9 @@ use Rattle.axis.specs.Kind.{X4}
 use Rattle.axis.specs.Row.{axisOf, rowOf, fresh}
 use Rattle.axis.specs.declared.row.Row.{Row}
 use Rattle.axis_sample.specs.Step.{stepRow}
-use Rattle.row_calls.specs.Answer.{viewValue}
+use Rattle.row_view.specs.View.{viewValue}
 use Rattle.row_calls.specs.Calls.{configOf, setupRow}
-use Rattle.row_calls.specs.declared.answer.View.{View}
+use Rattle.row_view.specs.declared.answer.View.{View}
 use Rattle.table_port.specs.Port.{sampledTable}
 use Rattle.table.specs.Call.{ruled, tableAfter, viewedIn}
 use Rattle.trace_axis.specs.declared.trace.Trace.{Trace}

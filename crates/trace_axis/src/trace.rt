@@ -3,7 +3,7 @@ ghost use mathlib.Core.Path.{_≡_};
 ghost use mathlib.Core.List.{[], _∷_};
 ghost use Rattle.trace_axis.specs.Trace.{started, fedWith, reportOf};
 use axis::kind::Kind;
-use row_calls::answer::Viewed;
+use row_view::answer::Viewed;
 use table::look::view;
 use table::setup::setup;
 use table_port::sample;

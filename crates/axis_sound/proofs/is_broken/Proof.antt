@@ -1,4 +1,4 @@
-use mathlib.Core.Path.{sym, _∙_}
+use mathlib.Core.Path.{sym}
 use borrow.Author.Needs.{needs}
 use Rattle.axis_sound.proofs.SoundLaws.{broken-by}
 use Rattle.axis_sound.proofs.is_broken.Statement.{statement}

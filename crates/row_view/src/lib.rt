@@ -1,8 +1,7 @@
 // View: what an axis shows.
 ghost use mathlib.Core.Path.{_≡_};
 ghost use Rattle.position.specs.Position.{Word};
-ghost use Rattle.row_calls.specs.Answer.{viewOf};
-ghost use Rattle.row_calls.specs.Calls.{viewRow};
+ghost use Rattle.row_view.specs.View.{viewOf, viewRow};
 use crate::answer::View;
 use crate::answer::Viewed;
 use axis::row::Axis;
@@ -10,6 +9,8 @@ use axis::row::Row;
 use axis_sound::Status;
 use axis_sound::open;
 use refusal::Refusal;
+
+pub mod answer; // answer.rt: what a view answers
 
 // What an axis shows.
 fn view_of(a: Axis) -> View

@@ -2,8 +2,8 @@ use mir.Syntax.{w64}
 use mir.Val.{SFits}
 use Rattle.integers.proofs.Machine.{back}
 use borrow.Author.Needs.{needs}
-use Rattle.row_calls.proofs.view.view_of.Statement.{statement}
-use Rattle.row_calls.proofs.view.view_of.Tie as tie
+use Rattle.row_view.proofs.view_of.Statement.{statement}
+use Rattle.row_view.proofs.view_of.Tie as tie
 
 returns : tie.Need-returns
 returns c =

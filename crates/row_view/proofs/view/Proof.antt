@@ -1,13 +1,13 @@
 use mathlib.Core.Path.{sym, ap, _∙_}
 use mathlib.Core.Logic.{inl, inr}
-use Rattle.row_calls.specs.declared.answer.Viewed.the-variants.{Shows}
-use Rattle.row_calls.specs.Answer.{viewOf}
-use Rattle.row_calls.specs.Calls.{viewRow}
+use Rattle.row_view.specs.declared.answer.Viewed.the-variants.{Shows}
+use Rattle.row_view.specs.View.{viewOf}
+use Rattle.row_view.specs.View.{viewRow}
 use Rattle.row_calls.proofs.StatusLaws.{live-position}
 use Rattle.axis_sound.proofs.SoundLaws.{opened-sampled, opened-counter}
 use borrow.Author.Needs.{needs}
-use Rattle.row_calls.proofs.view.view.Statement.{statement}
-use Rattle.row_calls.proofs.view.view.Tie as tie
+use Rattle.row_view.proofs.view.Statement.{statement}
+use Rattle.row_view.proofs.view.Tie as tie
 
 view-of-requires : tie.Need-view-of-requires
 view-of-requires c κs =
