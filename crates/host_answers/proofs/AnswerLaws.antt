@@ -17,11 +17,8 @@ use Rattle.row_calls.specs.declared.answer.Done.{Done}
 use Rattle.row_view.specs.declared.answer.Viewed.{Viewed}
 use Rattle.row_calls.proofs.AnswerLaws.{done-told}
 use Rattle.row_view.proofs.ViewLaws.{view-told}
-use Rattle.table_port.specs.declared.Sampled.{Sampled}
-use Rattle.table_port.proofs.AnswerLaws.{sample-told}
 use Rattle.host_answers.specs.declared.answer.Answer.{Answer}
-use Rattle.host_answers.specs.Answer.{answerTo, answerSpeed, answerTest, answerDone, answerWritten, answerSampled, answerView}
-use Rattle.host_answers.specs.declared.sampled.SampledAnswer.{SampledAnswer}
+use Rattle.host_answers.specs.Answer.{answerTo, answerSpeed, answerTest, answerDone, answerWritten, answerView}
 use Rattle.host_answers.specs.declared.view.ViewAnswer.{ViewAnswer}
 
 bit-apart : (a b : Bool) → bitOf a ≡ bitOf b → a ≡ b
@@ -55,13 +52,6 @@ pub written-apart : (a b : Written) → answerWritten a ≡ answerWritten b → 
 unfolding answerWritten
 written-apart a b e =
     save-told a b (ap (λ (x : Answer). x .refusal) e) (ap (λ (x : Answer). x .found) e) (ap (λ (x : Answer). natAbs (x .value)) e)
-
--- HEADLINE: so had two port samples.
-pub sampled-apart : (a b : Sampled) → answerSampled a ≡ answerSampled b → a ≡ b
-unfolding answerSampled
-sampled-apart a b e =
-    sample-told a b (ap (λ (x : SampledAnswer). x .refusal) e) (ap (λ (x : SampledAnswer). x .found) e)
-    (λ i. record { doubles = e i .doubles; index = e i .index; broken = e i .broken })
 
 -- HEADLINE: so had two views.
 pub view-apart : (a b : Viewed) → answerView a ≡ answerView b → a ≡ b

@@ -14,10 +14,7 @@ use Rattle.row_calls.specs.Answer.{doneNumber, doneFound}
 use Rattle.row_view.specs.View.{viewNumber, viewFound, viewValue}
 use Rattle.row_calls.specs.declared.answer.Done.{Done}
 use Rattle.row_view.specs.declared.answer.Viewed.{Viewed}
-use Rattle.table_port.specs.Port.{sampledNumber, sampledFound, sampledMasks}
-use Rattle.table_port.specs.declared.Sampled.{Sampled}
 use Rattle.host_answers.specs.declared.answer.Answer.{Answer}
-use Rattle.host_answers.specs.declared.sampled.SampledAnswer.{SampledAnswer}
 use Rattle.host_answers.specs.declared.view.ViewAnswer.{ViewAnswer}
 
 -- The value of a call that was done.
@@ -47,16 +44,6 @@ answerDone a = record { refusal = doneNumber a; found = doneFound a; value = pos
 -- The paper's number, found number and number of bytes of a save's answer.
 unfoldable pub answerWritten : Written → Answer
 answerWritten a = record { refusal = writtenNumber a; found = writtenFound a; value = pos (writtenBytes a) }
-
--- The paper's number, found number and masks of a port sample's answer.
-unfoldable pub answerSampled : Sampled → SampledAnswer
-answerSampled a = record {
-  refusal = sampledNumber a;
-  found = sampledFound a;
-  doubles = sampledMasks a .doubles;
-  index = sampledMasks a .index;
-  broken = sampledMasks a .broken;
-}
 
 -- The paper's number, found number and values of a view's answer, each flag as 0 or 1.
 unfoldable pub answerView : Viewed → ViewAnswer

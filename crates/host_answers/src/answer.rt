@@ -31,7 +31,7 @@ fn of_value(v: i64) -> Answer
 }
 
 // The answer of a refusal, which has no value.
-pub(crate) fn of_refusal(e: Refusal) -> Answer
+pub fn of_refusal(e: Refusal) -> Answer
     ensures { λ a. ⌜ a ≡ answerRefused e ⌝ }
 {
     Answer {

@@ -1,4 +1,3 @@
-// What every call answers to C, as C structs.
+// What the calls answer to C, as C structs; a port sample's answer stands with its export.
 pub mod answer; // answer.rt: the answers of most calls
-pub mod sampled; // sampled.rt: a port sample's
 pub mod view; // view.rt: a view's

@@ -1,5 +1,5 @@
 -- One outcome for each export.
-use mathlib.Core.Path.{_≡_, sym, ap, _∙_}
+use mathlib.Core.Path.{_≡_}
 use mathlib.Core.List.{List}
 use Prim.Native.Nat.{ℕ}
 use Rattle.refusal.proofs.OutcomeLaws.{one}
@@ -8,22 +8,10 @@ use Rattle.row_calls.specs.declared.answer.Changed.{Changed}
 use Rattle.table.specs.Call.{viewedIn, speedIn}
 use Rattle.host_answers.specs.declared.answer.Answer.{Answer}
 use Rattle.host_answers.specs.Answer.{answerSpeed, answerView}
-use Rattle.table_port.proofs.OutcomeLaws.{sample-one as port-one}
 use Rattle.table.proofs.OutcomeLaws.{makes-one, reading-one as read-one, save-one as saved-one}
-use Rattle.host_table.specs.Call.{ShownToC, SamplesToC, MakesToC, ReadsToC, SavesToC}
-use Rattle.host_answers.specs.declared.sampled.SampledAnswer.{SampledAnswer}
+use Rattle.host_table.specs.Call.{MakesToC, ReadsToC, SavesToC}
+use Rattle.host_answers.proofs.ShownLaws.{one-shown}
 use Rattle.host_answers.specs.declared.view.ViewAnswer.{ViewAnswer}
-
--- HEADLINE: two outcomes of one call are the same answer and the same words or bytes, since the table's own call has one outcome.
-pub one-shown : {D A S : Type 0} {form : D → A} {P Q : D → Type 0} {u v : S} {a b : A} →
-    ((d e : D) → P d → Q e → (d ≡ e) × (u ≡ v)) → ShownToC form P a → ShownToC form Q b → (a ≡ b) × (u ≡ v)
-one-shown {form = form} law p q =
-    let r = law (p .said) (q .said) (p .claimed) (q .claimed) in (p .answer ∙ ap form (r .0) ∙ sym (q .answer), r .1)
-
--- ubrenchip_sample
-pub sample-one : (t : List ℕ) (port : ℕ) {u v : List ℕ} {a b : SampledAnswer} →
-    SamplesToC t port u a → SamplesToC t port v b → (a ≡ b) × (u ≡ v)
-sample-one t port = one-shown (λ d e. port-one t port)
 
 -- ubrenchip_setup, ubrenchip_erase, ubrenchip_preset, ubrenchip_arm, ubrenchip_acknowledge and ubrenchip_restore, each by its rule
 pub made-one : (rule : Row → Changed) (t : List ℕ) (k : ℕ) {u v : List ℕ} {a b : Answer} →

@@ -1,5 +1,4 @@
-// Every call on a table, for C: each passes its arguments on to the table's own call and shows the answer as C structs.
-pub mod sampling; // sampling.rt: a port sample
+// Every call that names an axis, for C: each passes its arguments on to the table's own call and shows the answer as C structs.
 pub mod setup; // setup.rt: setup and erase
 pub mod change; // change.rt: preset, arm and acknowledge
 pub mod look; // look.rt: view, and speed by period

@@ -1,7 +1,7 @@
-// What a port sample answers to C.
+// A port sample for C: it passes its arguments on to the table's own and shows the answer as a C struct.
 ghost use mathlib.Core.Path.{_≡_};
-ghost use Rattle.host_answers.specs.Answer.{answerSampled};
-use crate::answer::of_refusal;
+ghost use Rattle.host_port.specs.Port.{answerSampled, SamplesToC};
+use host_answers::answer::of_refusal;
 use table_port::Sampled;
 
 // A port sample's answer: the refusal's number, the layout number found (0), and three masks in which bit k is axis k's.
@@ -15,7 +15,7 @@ pub struct SampledAnswer {
 }
 
 // The answer of a port sample.
-pub fn of_sampled(s: Sampled) -> SampledAnswer
+fn of_sampled(s: Sampled) -> SampledAnswer
     ensures { λ a. ⌜ a ≡ answerSampled s ⌝ }
 {
     match s {
@@ -37,4 +37,12 @@ pub fn of_sampled(s: Sampled) -> SampledAnswer
             }
         }
     }
+}
+
+// One sample of every axis's lines: LENGTH.
+#[no_mangle]
+pub extern "C" fn ubrenchip_sample(table: &mut [u64], port: u64) -> SampledAnswer
+    ensures { λ r. ⌜ SamplesToC (now (table .entry)) port (now (table .exit)) r ⌝ }
+{
+    of_sampled(table_port::sample(table, port))
 }

@@ -1,7 +1,7 @@
-use Rattle.host_answers.specs.Answer.{answerSampled}
+use Rattle.host_port.specs.Port.{answerSampled}
 use borrow.Author.Needs.{needs}
-use Rattle.host_answers.proofs.sampled.of_sampled.Statement.{statement}
-use Rattle.host_answers.proofs.sampled.of_sampled.Tie as tie
+use Rattle.host_port.proofs.of_sampled.Statement.{statement}
+use Rattle.host_port.proofs.of_sampled.Tie as tie
 
 returns : tie.Need-returns
 unfolding answerSampled
