@@ -12,11 +12,32 @@ use table::saving::save;
 use table::setup::setup;
 use table_port::sample;
 
+// A table of one axis, set up.
+fn made(kind: u8, depth: u64, width: u64, turn: u64) -> [u64; 4] {
+    let mut table = [0u64; 4];
+    setup(&mut table, 0, kind as u64, depth, width, turn);
+    table
+}
+
+// Its axis at another position.
+fn placed(mut table: [u64; 4], position: i64) -> [u64; 4] {
+    preset(&mut table, 0, position);
+    table
+}
+
+// One port word, so many times.
+fn repeat(mut table: [u64; 4], port: u64, times: u64) -> [u64; 4] {
+    let mut left = times;
+    while left > 0 {
+        sample(&mut table, port);
+        left -= 1;
+    }
+    table
+}
+
 // A narrow counter's reading past its width, in a table and without one.
 fn narrow() {
-    let mut table = [0u64; 4];
-    setup(&mut table, 0, Kind::COUNTER as u64, 0, 8, 0);
-    preset(&mut table, 0, 250);
+    let mut table = placed(made(Kind::COUNTER, 0, 8, 0), 250);
     say::reckoned(
         b"counter of width 8 at 250, reading 256: ",
         reading(&mut table, 0, 256),
@@ -29,14 +50,11 @@ fn narrow() {
 
 // A step that would leave the range, and one back.
 fn held() {
-    let mut table = [0u64; 4];
-    setup(&mut table, 0, Kind::X4 as u64, 1, 0, 0);
-    preset(&mut table, 0, 0x3fff_ffff_ffff_ffff);
-    sample(&mut table, 0);
-    sample(&mut table, 1);
-    say::viewed(b"x4 at 2^62 - 1, codes 0, 1: ", view(&table, 0));
-    sample(&mut table, 0);
-    say::viewed(b"then code 0: ", view(&table, 0));
+    let before = placed(made(Kind::X4, 1, 0, 0), 0x3fff_ffff_ffff_ffff);
+    let after = repeat(repeat(before, 0, 1), 1, 1);
+    say::viewed(b"x4 at 2^62 - 1, codes 0, 1: ", view(&after, 0));
+    let back = repeat(after, 0, 1);
+    say::viewed(b"then code 0: ", view(&back, 0));
 }
 
 // Speeds by count.
@@ -45,38 +63,21 @@ fn counted() {
     say::speed(b"speed by count 1, T 0, F 1: ", by_count(1, 0, 1));
 }
 
-// One port word, so many times.
-fn repeat(table: &mut [u64], port: u64, times: u64) {
-    let mut left = times;
-    while left > 0 {
-        sample(table, port);
-        left -= 1;
-    }
-}
-
 // Forward steps five samples apart, and the speed by period then and twelve samples later.
 fn paced() {
-    let mut table = [0u64; 4];
-    setup(&mut table, 0, Kind::X4 as u64, 1, 0, 0);
-    repeat(&mut table, 0, 5);
-    repeat(&mut table, 1, 5);
-    repeat(&mut table, 3, 5);
-    repeat(&mut table, 2, 1);
-    say::speed(
-        b"x4 steps 5 samples apart, F 1000: ",
-        speed(&table, 0, 1000),
-    );
-    repeat(&mut table, 2, 12);
+    let first = repeat(made(Kind::X4, 1, 0, 0), 0, 5);
+    let then = repeat(repeat(repeat(first, 1, 5), 3, 5), 2, 1);
+    say::speed(b"x4 steps 5 samples apart, F 1000: ", speed(&then, 0, 1000));
+    let later = repeat(then, 2, 12);
     say::speed(
         b"12 samples after the last, F 1000: ",
-        speed(&table, 0, 1000),
+        speed(&later, 0, 1000),
     );
 }
 
 // The words of a setup, and a setup past its limits.
 fn set_up() {
-    let mut table = [0u64; 4];
-    setup(&mut table, 0, Kind::X4 as u64, 3, 0, 4096);
+    let mut table = made(Kind::X4, 3, 0, 4096);
     say::words(b"setup x4, depth 3, 4096 a turn:", &table);
     say::done(
         b"setup x4, depth 9, 4096 a turn: ",
@@ -86,11 +87,9 @@ fn set_up() {
 
 // A record, and a buffer that is a byte too short for it.
 fn saved() {
-    let mut table = [0u64; 4];
+    let table = placed(made(Kind::X4, 3, 0, 4096), -2);
     let mut buf = [0u8; 34];
     let mut short = [0u8; 33];
-    setup(&mut table, 0, Kind::X4 as u64, 3, 0, 4096);
-    preset(&mut table, 0, -2);
     let whole = save(&table, 0, &mut buf);
     say::written(b"x4, depth 3, 4096 a turn, at -2, saved:", whole, &buf);
     let refused = save(&table, 0, &mut short);

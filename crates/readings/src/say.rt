@@ -20,21 +20,17 @@ fn number(n: i64) {
     io::print_decimal(STDOUT_FILENO, size(n));
 }
 
-// The name of a reason.
+// The end of a line.
+fn end() {
+    text(b"\n");
+}
+
+// The name of a reason that these readings meet, or the number of another.
 fn reason(e: Refusal) {
     match e {
-        Refusal::Length => text(b"LENGTH"),
-        Refusal::Axis => text(b"AXIS"),
-        Refusal::Broken => text(b"BROKEN"),
-        Refusal::Empty => text(b"EMPTY"),
-        Refusal::Kind => text(b"KIND"),
         Refusal::Value => text(b"VALUE"),
-        Refusal::Half => text(b"HALF"),
-        Refusal::Range => text(b"RANGE"),
-        Refusal::NoPeriod => text(b"NO PERIOD"),
         Refusal::Room => text(b"ROOM"),
-        Refusal::Layout(_) => text(b"LAYOUT"),
-        Refusal::Record => text(b"RECORD"),
+        _ => number(refusal::number(e) as i64),
     }
 }
 
@@ -45,7 +41,7 @@ pub fn reckoned(label: &[u8], answer: Reckoned) {
         Reckoned::Number(n) => number(n),
         Reckoned::Refused(e) => reason(e),
     }
-    text(b"\n");
+    end();
 }
 
 // A speed, or the reason.
@@ -55,7 +51,7 @@ pub fn speed(label: &[u8], answer: Speed) {
         Speed::Of(n) => number(n),
         Speed::Refused(e) => reason(e),
     }
-    text(b"\n");
+    end();
 }
 
 // That a call was done, or the reason.
@@ -65,7 +61,7 @@ pub fn done(label: &[u8], answer: Done) {
         Done::Yes => text(b"done"),
         Done::Refused(e) => reason(e),
     }
-    text(b"\n");
+    end();
 }
 
 // The position of an axis and whether RANGE is set, or the reason.
@@ -80,7 +76,7 @@ pub fn viewed(label: &[u8], answer: Viewed) {
         }
         Viewed::Refused(e) => reason(e),
     }
-    text(b"\n");
+    end();
 }
 
 // A word behind a space.
@@ -101,7 +97,7 @@ fn all_words(words: &[u64]) {
 pub fn words(label: &[u8], words: &[u64]) {
     text(label);
     all_words(words);
-    text(b"\n");
+    end();
 }
 
 // A byte in hexadecimal behind a space.
@@ -128,5 +124,5 @@ pub fn written(label: &[u8], answer: Written, buf: &[u8]) {
             reason(e);
         }
     }
-    text(b"\n");
+    end();
 }
