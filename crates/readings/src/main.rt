@@ -6,7 +6,6 @@ use reckon::speed::by_count;
 use reckon::widening::widen;
 use table::change::preset;
 use table::look::speed;
-use table::look::view;
 use table::reading::reading;
 use table::saving::save;
 use table::setup::setup;
@@ -52,9 +51,8 @@ fn narrow() {
 fn held() {
     let before = placed(made(Kind::X4, 1, 0, 0), 0x3fff_ffff_ffff_ffff);
     let after = repeat(repeat(before, 0, 1), 1, 1);
-    say::viewed(b"x4 at 2^62 - 1, codes 0, 1: ", view(&after, 0));
-    let back = repeat(after, 0, 1);
-    say::viewed(b"then code 0: ", view(&back, 0));
+    say::viewed(b"x4 at 2^62 - 1, codes 0, 1: ", after);
+    say::viewed(b"then code 0: ", repeat(after, 0, 1));
 }
 
 // Speeds by count.

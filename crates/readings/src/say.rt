@@ -6,6 +6,7 @@ use record::answer::Written;
 use refusal::Refusal;
 use row_calls::answer::Done;
 use row_view::answer::Viewed;
+use table::look::view;
 use text::put::size;
 
 fn text(bytes: &[u8]) {
@@ -64,10 +65,10 @@ pub fn done(label: &[u8], answer: Done) {
     end();
 }
 
-// The position of an axis and whether RANGE is set, or the reason.
-pub fn viewed(label: &[u8], answer: Viewed) {
+// The position of a table's axis and whether RANGE is set, or the reason.
+pub fn viewed(label: &[u8], table: [u64; 4]) {
     text(label);
-    match answer {
+    match view(&table, 0) {
         Viewed::Shows(v) => {
             number(v.position);
             if v.range {
@@ -85,18 +86,14 @@ fn word(w: u64) {
     io::print_decimal(STDOUT_FILENO, w);
 }
 
-fn all_words(words: &[u64]) {
+// The words of a table.
+pub fn words(label: &[u8], words: &[u64]) {
+    text(label);
     let mut i = 0;
     while i < words.len() {
         word(words[i]);
         i += 1;
     }
-}
-
-// The words of a table.
-pub fn words(label: &[u8], words: &[u64]) {
-    text(label);
-    all_words(words);
     end();
 }
 

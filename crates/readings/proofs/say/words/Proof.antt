@@ -1,0 +1,18 @@
+use Prim.Native.Nat.{_-_, _≤_}
+use lib.ListN.{length}
+use borrow.Author.Needs.{needs}
+use Rattle.readings.proofs.say.words.Statement.{statement}
+use Rattle.readings.proofs.say.words.Tie as tie
+
+abbrev Inv-loop : tie.InvT-loop
+Inv-loop label words i₀ i = i ≤ length words
+
+abbrev μ-loop : tie.MeasureT-loop
+μ-loop label words i₀ i = length words - i
+
+pub words-spec : {M : Type 1} → statement M
+words-spec =
+    tie.close
+    (tie.spec
+    Inv-loop μ-loop (λ c κs. search needs) (λ c. search needs) (λ c. search needs) (λ c. search needs) (λ c κs. search needs)
+    (λ c. search needs) (λ c. search needs) (λ c. search needs) (λ c κs. search needs) (λ c. search needs))
