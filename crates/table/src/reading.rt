@@ -14,9 +14,8 @@ pub fn reading(table: &mut [u64], axis: u64, reading: u64) -> Reckoned
         Located::At(row) => {
             let taken = row_counter::read(row, reading);
             let change = taken.row;
-            let answer = taken.answer;
             commit(table, axis, change);
-            answer
+            taken.answer
         }
     }
 }
