@@ -7,7 +7,6 @@ use reckon::widening::widen;
 use table::change::preset;
 use table::look::speed;
 use table::reading::reading;
-use table::saving::save;
 use table::setup::setup;
 use table_port::sample;
 
@@ -76,7 +75,7 @@ fn paced() {
 // The words of a setup, and a setup past its limits.
 fn set_up() {
     let mut table = made(Kind::X4, 3, 0, 4096);
-    say::words(b"setup x4, depth 3, 4096 a turn:", &table);
+    say::words(b"setup x4, depth 3, 4096 a turn:", table);
     say::done(
         b"setup x4, depth 9, 4096 a turn: ",
         setup(&mut table, 0, Kind::X4 as u64, 9, 0, 4096),
@@ -88,10 +87,8 @@ fn saved() {
     let table = placed(made(Kind::X4, 3, 0, 4096), -2);
     let mut buf = [0u8; 34];
     let mut short = [0u8; 33];
-    let whole = save(&table, 0, &mut buf);
-    say::written(b"x4, depth 3, 4096 a turn, at -2, saved:", whole, &buf);
-    let refused = save(&table, 0, &mut short);
-    say::written(b"saved in 33 bytes:", refused, &short);
+    say::saved(b"x4, depth 3, 4096 a turn, at -2, saved:", table, &mut buf);
+    say::saved(b"saved in 33 bytes:", table, &mut short);
 }
 
 fn main() {

@@ -7,6 +7,7 @@ use refusal::Refusal;
 use row_calls::answer::Done;
 use row_view::answer::Viewed;
 use table::look::view;
+use table::saving::save;
 use text::put::size;
 
 fn text(bytes: &[u8]) {
@@ -87,11 +88,11 @@ fn word(w: u64) {
 }
 
 // The words of a table.
-pub fn words(label: &[u8], words: &[u64]) {
+pub fn words(label: &[u8], table: [u64; 4]) {
     text(label);
     let mut i = 0;
-    while i < words.len() {
-        word(words[i]);
+    while i < 4 {
+        word(table[i]);
         i += 1;
     }
     end();
@@ -111,10 +112,10 @@ fn all_bytes(bytes: &[u8]) {
     }
 }
 
-// The buffer that a record was written to, or the reason.
-pub fn written(label: &[u8], answer: Written, buf: &[u8]) {
+// The record of a table's axis in a buffer, or the reason.
+pub fn saved(label: &[u8], table: [u64; 4], buf: &mut [u8]) {
     text(label);
-    match answer {
+    match save(&table, 0, buf) {
         Written::Bytes(_) => all_bytes(buf),
         Written::Refused(e) => {
             text(b" ");
