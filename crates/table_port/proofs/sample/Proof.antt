@@ -6,8 +6,10 @@ use mathlib.Core.List.{List}
 use lib.ListN.{length}
 use borrow.Author.Needs.{needs}
 use Rattle.axis.specs.Limit.{mostAxes}
-use Rattle.table_port.specs.Port.{nibble, sampledTo, maskOf, masksTo}
+use Rattle.table_port.specs.Port.{nibble, sampledTo, maskOf, masksTo, noted, SamplesRow}
+use Rattle.axis_sample.specs.declared.step.SteppedRow.{SteppedRow}
 use Rattle.table_port.specs.declared.Masks.{Masks}
+use Rattle.table_port.specs.declared.Sampled.the-variants.{Seen}
 use Rattle.table_rows.proofs.RowsLaws.{axes-fit, axes-most}
 use Rattle.table_port.proofs.PortLaws.{length-sampledTo, masks-below, masks-next, table-next, sample-none, sample-all}
 use Rattle.table_port.proofs.sample.Statement.{statement}
@@ -18,6 +20,15 @@ record Reached (t₀ : List ℕ) (port n : ℕ) (t : List ℕ) (m : Masks) (k : 
   within : k ≤ n
   table : t ≡ sampledTo k t₀ (nibble port)
   masks : m ≡ masksTo k t₀ (nibble port)
+
+-- One row more.
+next : {t₀ t u : List ℕ} {port n k : ℕ} {m l : Masks} {s : SteppedRow} → Reached t₀ port n t m k → k < n →
+    SamplesRow t k port u s → l ≡ noted m k s → Reached t₀ port n u l (k + 1)
+next {t₀} {port = port} {k = k} v h w e = record {
+  within = omega arith;
+  table = cc (table-next t₀ (nibble port) k);
+  masks = cc (masks-next t₀ (nibble port) k);
+}
 
 abbrev Inv-loop : tie.InvT-loop
 Inv-loop table₀ port n masks₀ k₀ table masks k = Reached table₀ port n table masks k
@@ -31,7 +42,7 @@ returns-2 c =
     let v = c .before .loop .inv in
     let a = c .before .before .before .before .before .args in
     let w = sample-all (a .table .now) (a .port) (c .before .loop .k) (omega arith) (omega arith) in
-    record { answer = cc (w .answer); table = v .table ∙ w .table }
+    record { answer = ap Seen (v .masks) ∙ w .answer; table = v .table ∙ w .table }
 
 returns : tie.Need-returns Inv-loop μ-loop
 returns c = sample-none _ _ (sym (c .before .axes-in .ensures) ∙ c .if1 .taken)
@@ -63,13 +74,8 @@ note-requires c κs =
 
 loop-again : tie.Need-loop-again Inv-loop μ-loop
 loop-again c =
-    let a = c .before .before .before .before .before .before .before .before .before .before .args in
-    let k = c .before .before .before .before .before .before .loop .k in
-    record {
-      within = search needs;
-      table = cc (table-next (a .table .now) (nibble (a .port)) k);
-      masks = cc (masks-next (a .table .now) (nibble (a .port)) k);
-    }
+    let i = c .before .before .before .before .before in
+    next (i .before .loop .inv) (i .loop-test .taken) (c .before .before .before .sample-row .ensures) (c .note .ensures)
 
 same-length : tie.Need-same-length Inv-loop μ-loop
 same-length c = ap length (c .before .loop .inv .table) ∙ length-sampledTo _ _ _
