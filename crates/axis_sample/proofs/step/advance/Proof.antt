@@ -31,5 +31,5 @@ pub advance-spec : {M : Type 1} → statement M
 advance-spec =
     tie.close
     (tie.spec
-    (λ c κs. search needs) filter-requires (λ c. search needs) (λ c. search needs) (λ c κs. search needs)
-    (λ c. search needs) (λ c κs. search needs) settled-requires (λ c κs. search needs) returns)
+    (λ c κs. tt) filter-requires (λ c. search needs) (λ c. search needs) (λ c κs. tt)
+    (λ c. search needs) (λ c κs. tt) settled-requires (λ c κs. tt) returns)

@@ -1,6 +1,5 @@
 use Rattle.axis_sample.specs.Step.{settle}
 use Rattle.axis_filter.specs.Lines.{three}
-use borrow.Author.Needs.{needs}
 use Rattle.axis_sample.proofs.step.settled.Statement.{statement}
 use Rattle.axis_sample.proofs.step.settled.Tie as tie
 
@@ -24,5 +23,5 @@ pub settled-spec : {M : Type 1} → statement M
 settled-spec =
     tie.close
     (tie.spec
-    (λ c κs. search needs) (λ c κs. search needs) (λ c κs. search needs) (λ c κs. search needs) (λ c κs. search needs)
+    (λ c κs. tt) (λ c κs. tt) (λ c κs. tt) (λ c κs. tt) (λ c κs. tt)
     returns)

@@ -1,5 +1,4 @@
 use Rattle.axis_sample.specs.Step.{stepAxis}
-use borrow.Author.Needs.{needs}
 use Rattle.axis_sample.proofs.step.step_axis.Statement.{statement}
 use Rattle.axis_sample.proofs.step.step_axis.Tie as tie
 
@@ -13,4 +12,4 @@ returns-2 c = rw (c .prime .ensures, c .before .if1 .left)
 
 pub step-axis-spec : {M : Type 1} → statement M
 step-axis-spec =
-    tie.close (tie.spec (λ c κs. search needs) returns (λ c κs. search needs) returns-2)
+    tie.close (tie.spec (λ c κs. c .before .pre) returns (λ c κs. tt) returns-2)

@@ -4,7 +4,6 @@ use Rattle.axis_sound.proofs.SoundLaws.{sampled-gives, sampled-opens}
 use Rattle.axis_filter.specs.Lines.{rawOf}
 use Rattle.axis_sample.specs.Step.{packed, stepAxis}
 use Rattle.axis_sample.proofs.RowLaws.{row-steps, other-stays}
-use borrow.Author.Needs.{needs}
 use Rattle.axis_sample.proofs.step.step_row.Statement.{statement}
 use Rattle.axis_sample.proofs.step.step_row.Tie as tie
 
@@ -38,5 +37,4 @@ pub step-row-spec : {M : Type 1} → statement M
 step-row-spec =
     tie.close
     (tie.spec
-    (λ c κs. search needs) (λ c κs. search needs) step-sampled-requires returns is-broken-requires (λ c κs. search needs)
-    returns-2)
+    (λ c κs. tt) (λ c κs. c .axis-in .ensures) step-sampled-requires returns is-broken-requires (λ c κs. tt) returns-2)

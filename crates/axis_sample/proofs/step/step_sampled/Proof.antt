@@ -1,6 +1,5 @@
 use Rattle.axis_sound.proofs.SoundLaws.{sampled-held}
 use Rattle.axis_sample.proofs.KeepLaws.{sampled-short, keep-step}
-use borrow.Author.Needs.{needs}
 use Rattle.axis_sample.proofs.step.step_sampled.Statement.{statement}
 use Rattle.axis_sample.proofs.step.step_sampled.Tie as tie
 
@@ -17,4 +16,4 @@ returns c = rw (c .pack .ensures, c .before .before .step-axis .ensures, c .befo
 
 pub step-sampled-spec : {M : Type 1} → statement M
 step-sampled-spec =
-    tie.close (tie.spec (λ c κs. search needs) step-axis-requires pack-requires returns)
+    tie.close (tie.spec (λ c κs. tt) step-axis-requires pack-requires returns)
