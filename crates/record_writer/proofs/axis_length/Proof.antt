@@ -1,5 +1,4 @@
 use mathlib.Core.Path.{sym, _∙_}
-use borrow.Author.Needs.{needs}
 use Rattle.record_writer.proofs.axis_length.Statement.{statement}
 use Rattle.record_writer.proofs.axis_length.Tie as tie
 
@@ -13,4 +12,4 @@ pub axis-length-spec : {M : Type 1} → statement M
 axis-length-spec =
     tie.close
     (tie.spec
-    (λ c κs. search needs) returns returns-2)
+    (λ c κs. tt) returns returns-2)

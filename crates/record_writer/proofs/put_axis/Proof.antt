@@ -71,6 +71,6 @@ pub put-axis-spec : {M : Type 1} → statement M
 put-axis-spec =
     tie.close
     (tie.spec
-    (λ c. search needs) (λ c κs. search needs) put-front-requires (λ c κs. search needs) (λ c. search needs) put-field-requires
+    (λ c. search needs) (λ c κs. tt) put-front-requires (λ c κs. tt) (λ c. search needs) put-field-requires
     (λ c. search needs) returns (λ c. search needs) put-field-requires-2 (λ c. search needs) put-field-requires-3 (λ c. search needs)
     returns-2)

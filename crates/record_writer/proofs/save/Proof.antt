@@ -52,5 +52,5 @@ pub save-spec : {M : Type 1} → statement M
 save-spec =
     tie.close
     (tie.spec
-    (λ c κs. search needs) returns (λ c. search needs) (λ c κs. search needs) add-if2 returns-2 (λ c. search needs)
+    (λ c κs. tt) returns (λ c. search needs) (λ c κs. tt) add-if2 returns-2 (λ c. search needs)
     (λ c κs. search needs) (λ c κs. search needs) put-field-requires (λ c. search needs) returns-3)
