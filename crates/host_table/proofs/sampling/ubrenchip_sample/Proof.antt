@@ -1,0 +1,10 @@
+use borrow.Author.Needs.{needs}
+use Rattle.host_table.proofs.sampling.ubrenchip_sample.Statement.{statement}
+use Rattle.host_table.proofs.sampling.ubrenchip_sample.Tie as tie
+
+returns : tie.Need-returns
+returns c = record { said = _; claimed = c .before .before .before .sample .ensures; answer = c .of-sampled .ensures }
+
+pub ubrenchip-sample-spec : {M : Type 1} → statement M
+ubrenchip-sample-spec =
+    tie.close (tie.spec (λ c κs. search needs) (λ c κs. search needs) (λ c. search needs) returns)

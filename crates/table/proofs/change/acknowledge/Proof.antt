@@ -1,0 +1,10 @@
+use borrow.Author.Needs.{needs}
+use Rattle.table.proofs.change.acknowledge.Statement.{statement}
+use Rattle.table.proofs.change.acknowledge.Tie as tie
+
+returns : tie.Need-returns
+returns c = c .before .before .make .ensures
+
+pub acknowledge-spec : {M : Type 1} → statement M
+acknowledge-spec =
+    tie.close (tie.spec (λ c κs. search needs) (λ c. search needs) returns)
