@@ -1,6 +1,6 @@
 use borrow.Author.Needs.{needs}
-use Rattle.host_table.proofs.sampling.ubrenchip_sample.Statement.{statement}
-use Rattle.host_table.proofs.sampling.ubrenchip_sample.Tie as tie
+use Rattle.host_port.proofs.ubrenchip_sample.Statement.{statement}
+use Rattle.host_port.proofs.ubrenchip_sample.Tie as tie
 
 returns : tie.Need-returns
 returns c = record { said = _; claimed = c .before .before .before .sample .ensures; answer = c .of-sampled .ensures }

@@ -1,0 +1,9 @@
+use mathlib.Core.Path.{refl}
+use Rattle.reckon.proofs.speed.is_samples.Statement.{statement}
+use Rattle.reckon.proofs.speed.is_samples.Tie as tie
+
+returns : tie.Need-returns
+returns c = refl
+
+pub is-samples-spec : {M : Type 1} → statement M
+is-samples-spec = tie.close (tie.spec returns)
