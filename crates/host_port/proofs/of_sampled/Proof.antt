@@ -16,4 +16,4 @@ of-sampled-spec =
     tie.close
     (tie.spec
     (λ c. search needs) (λ c. search needs) (λ c. search needs) (λ c. search needs) (λ c. search needs)
-    (λ c κs. search needs) returns returns-2)
+    (λ c κs. tt) returns returns-2)

@@ -56,4 +56,4 @@ pub read-spec : {M : Type 1} → statement M
 read-spec =
     tie.close
     (tie.spec
-    (λ c κs. search needs) answer-requires (λ c. search needs) (λ c. search needs) stored-requires returns returns-2)
+    (λ c κs. tt) answer-requires (λ c. search needs) (λ c. search needs) stored-requires returns returns-2)

@@ -13,4 +13,4 @@ returns c =
 
 pub widened-spec : {M : Type 1} → statement M
 widened-spec =
-    tie.close (tie.spec (λ c. search needs) (λ c κs. search needs) (λ c κs. search needs) returns)
+    tie.close (tie.spec (λ c. search needs) (λ c κs. search needs) (λ c κs. tt) returns)

@@ -54,5 +54,5 @@ pub restore-spec : {M : Type 1} → statement M
 restore-spec =
     tie.close
     (tie.spec
-    (λ c κs. search needs) (λ c. search needs) (λ c. search needs) word-of-requires (λ c κs. search needs)
+    (λ c κs. tt) (λ c. search needs) (λ c. search needs) word-of-requires (λ c κs. tt)
     pack-requires returns returns-2)

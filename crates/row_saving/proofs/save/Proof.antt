@@ -55,6 +55,6 @@ pub save-spec : {M : Type 1} → statement M
 save-spec =
     tie.close
     (tie.spec
-    (λ c κs. search needs) (λ c. search needs) (λ c. search needs) (λ c. search needs) kept-requires
-    (λ c κs. search needs) (λ c. search needs) kept-requires-2 (λ c κs. search needs) returns returns-2
+    (λ c κs. tt) (λ c. search needs) (λ c. search needs) (λ c. search needs) kept-requires
+    (λ c κs. tt) (λ c. search needs) kept-requires-2 (λ c κs. tt) returns returns-2
     (λ c. search needs) returns-3 (λ c. search needs) returns-4)

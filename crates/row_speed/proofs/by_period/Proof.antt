@@ -35,5 +35,5 @@ pub by-period-spec : {M : Type 1} → statement M
 by-period-spec =
     tie.close
     (tie.spec
-    (λ c κs. search needs) returns returns-2 (λ c κs. search needs) (λ c κs. search needs) (λ c κs. search needs)
+    (λ c κs. tt) returns returns-2 (λ c κs. tt) (λ c κs. tt) (λ c κs. tt)
     returns-3)

@@ -45,5 +45,5 @@ pub view-spec : {M : Type 1} → statement M
 view-spec =
     tie.close
     (tie.spec
-    (λ c κs. search needs) (λ c. search needs) (λ c. search needs) (λ c. search needs) view-of-requires
+    (λ c κs. tt) (λ c. search needs) (λ c. search needs) (λ c. search needs) view-of-requires
     (λ c. search needs) view-of-requires-2 returns returns-2 returns-3 returns-4)

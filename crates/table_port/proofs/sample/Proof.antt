@@ -84,5 +84,5 @@ pub sample-spec : {M : Type 1} → statement M
 sample-spec =
     tie.close
     (tie.spec
-    Inv-loop μ-loop (λ c κs. search needs) returns loop-holds sample-row-requires note-requires (λ c. search needs)
+    Inv-loop μ-loop (λ c κs. tt) returns loop-holds sample-row-requires note-requires (λ c. search needs)
     (λ c. search needs) loop-again same-length returns-2)

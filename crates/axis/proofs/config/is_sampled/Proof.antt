@@ -7,4 +7,4 @@ returns c = rw (c .is-sampled .ensures)
 
 pub is-sampled-spec : {M : Type 1} → statement M
 is-sampled-spec =
-    tie.close (tie.spec (λ c κs. search needs) returns)
+    tie.close (tie.spec (λ c κs. tt) returns)

@@ -18,4 +18,4 @@ returns-3 c = rw (← (c .before .is-double .ensures), c .if1 .left)
 
 pub count-doubles-spec : {M : Type 1} → statement M
 count-doubles-spec =
-    tie.close (tie.spec (λ c κs. search needs) (λ c. search needs) returns returns-2 returns-3)
+    tie.close (tie.spec (λ c κs. tt) (λ c. search needs) returns returns-2 returns-3)

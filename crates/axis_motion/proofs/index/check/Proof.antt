@@ -11,4 +11,4 @@ returns-2 c = rw (c .if1 .left, or-false (c .before .args .index))
 
 pub check-spec : {M : Type 1} → statement M
 check-spec =
-    tie.close (tie.spec (λ c κs. search needs) returns returns-2)
+    tie.close (tie.spec (λ c κs. tt) returns returns-2)

@@ -15,4 +15,4 @@ returns-2 c = rw (c .distance .ensures, lt-ltb 0 (c .before .before .args .turn)
 
 pub off-turn-spec : {M : Type 1} → statement M
 off-turn-spec =
-    tie.close (tie.spec returns (λ c κs. search needs) (λ c. search needs) returns-2)
+    tie.close (tie.spec returns (λ c κs. tt) (λ c. search needs) returns-2)

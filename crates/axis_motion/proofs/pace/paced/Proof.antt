@@ -23,5 +23,5 @@ pub paced-spec : {M : Type 1} → statement M
 paced-spec =
     tie.close
     (tie.spec
-    (λ c. search needs) (λ c κs. search needs) (λ c. search needs) (λ c κs. search needs) (λ c. search needs)
-    (λ c κs. search needs) (λ c. search needs) returns returns-2 returns-3 returns-4)
+    (λ c. search needs) (λ c κs. tt) (λ c. search needs) (λ c κs. tt) (λ c. search needs)
+    (λ c κs. tt) (λ c. search needs) returns returns-2 returns-3 returns-4)

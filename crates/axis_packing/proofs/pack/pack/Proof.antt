@@ -7,4 +7,4 @@ returns c = rw (c .before .before .word1 .ensures, c .before .word2 .ensures)
 
 pub pack-spec : {M : Type 1} → statement M
 pack-spec =
-    tie.close (tie.spec (λ c κs. search needs) (λ c κs. search needs) (λ c. search needs) returns)
+    tie.close (tie.spec (λ c κs. search needs) (λ c κs. tt) (λ c. search needs) returns)

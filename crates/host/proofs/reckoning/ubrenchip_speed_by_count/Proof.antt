@@ -10,4 +10,4 @@ returns c = c .of-speed .ensures ∙ ap answerSpeed (rw (back (c .before .before
 
 pub ubrenchip-speed-by-count-spec : {M : Type 1} → statement M
 ubrenchip-speed-by-count-spec =
-    tie.close (tie.spec (λ c κs. search needs) (λ c κs. search needs) returns)
+    tie.close (tie.spec (λ c κs. tt) (λ c κs. tt) returns)

@@ -10,4 +10,4 @@ returns c = c .of-reckoned .ensures ∙ ap answerTo (rw (back (c .before .before
 
 pub ubrenchip-widen-spec : {M : Type 1} → statement M
 ubrenchip-widen-spec =
-    tie.close (tie.spec (λ c κs. search needs) (λ c κs. search needs) returns)
+    tie.close (tie.spec (λ c κs. tt) (λ c κs. tt) returns)

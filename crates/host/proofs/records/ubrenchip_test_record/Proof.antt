@@ -9,4 +9,4 @@ returns c = c .of-tested .ensures ∙ ap answerTest (c .before .test .ensures)
 
 pub ubrenchip-test-record-spec : {M : Type 1} → statement M
 ubrenchip-test-record-spec =
-    tie.close (tie.spec (λ c κs. search needs) (λ c κs. search needs) returns)
+    tie.close (tie.spec (λ c κs. tt) (λ c κs. tt) returns)

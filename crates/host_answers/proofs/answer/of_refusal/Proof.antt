@@ -7,4 +7,4 @@ returns c = rw (c .before .number .ensures, c .found .ensures)
 
 pub of-refusal-spec : {M : Type 1} → statement M
 of-refusal-spec =
-    tie.close (tie.spec (λ c κs. search needs) (λ c κs. search needs) returns)
+    tie.close (tie.spec (λ c κs. tt) (λ c κs. tt) returns)

@@ -27,5 +27,5 @@ pub of-written-spec : {M : Type 1} → statement M
 of-written-spec =
     tie.close
     (tie.spec
-    (λ c. search needs) cast-of-value (λ c κs. search needs) (λ c. search needs) (λ c κs. search needs) returns
+    (λ c. search needs) cast-of-value (λ c κs. tt) (λ c. search needs) (λ c κs. tt) returns
     returns-2)

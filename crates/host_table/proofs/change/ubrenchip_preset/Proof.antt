@@ -11,4 +11,4 @@ returns c =
 
 pub ubrenchip-preset-spec : {M : Type 1} → statement M
 ubrenchip-preset-spec =
-    tie.close (tie.spec (λ c κs. search needs) (λ c κs. search needs) (λ c. search needs) returns)
+    tie.close (tie.spec (λ c κs. tt) (λ c κs. tt) (λ c. search needs) returns)

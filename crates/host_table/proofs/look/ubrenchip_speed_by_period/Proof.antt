@@ -9,4 +9,4 @@ returns c = c .of-speed .ensures ∙ ap answerSpeed (c .before .speed .ensures)
 
 pub ubrenchip-speed-by-period-spec : {M : Type 1} → statement M
 ubrenchip-speed-by-period-spec =
-    tie.close (tie.spec (λ c κs. search needs) (λ c κs. search needs) returns)
+    tie.close (tie.spec (λ c κs. tt) (λ c κs. tt) returns)

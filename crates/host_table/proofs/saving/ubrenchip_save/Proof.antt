@@ -8,4 +8,4 @@ of-written-requires c κs = rw (c .before .before .save .ensures .answer) (save-
 
 pub ubrenchip-save-spec : {M : Type 1} → statement M
 ubrenchip-save-spec =
-    tie.close (tie.spec (λ c κs. search needs) of-written-requires (λ c. search needs) (λ c. search needs))
+    tie.close (tie.spec (λ c κs. tt) of-written-requires (λ c. search needs) (λ c. search needs))

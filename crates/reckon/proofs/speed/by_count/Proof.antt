@@ -79,5 +79,5 @@ pub by-count-spec : {M : Type 1} → statement M
 by-count-spec =
     tie.close
     (tie.spec
-    (λ c κs. search needs) (λ c κs. search needs) (λ c κs. search needs) returns mul-f cast-f mul-to-nearest
+    (λ c κs. tt) (λ c κs. tt) (λ c κs. tt) returns mul-f cast-f mul-to-nearest
     to-nearest-requires returns-2)

@@ -23,5 +23,5 @@ pub nearest-spec : {M : Type 1} → statement M
 nearest-spec =
     tie.close
     (tie.spec
-    (λ c. search needs) (λ c. search needs) (λ c κs. search needs) returns (λ c. search needs) returns-2
-    (λ c. search needs) returns-3 (λ c. search needs) (λ c. search needs) (λ c κs. search needs) returns-4)
+    (λ c. search needs) (λ c. search needs) (λ c κs. tt) returns (λ c. search needs) returns-2
+    (λ c. search needs) returns-3 (λ c. search needs) (λ c. search needs) (λ c κs. tt) returns-4)

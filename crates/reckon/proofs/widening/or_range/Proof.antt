@@ -28,4 +28,4 @@ returns-2 c = rw (word-range (c .before .before .before .args .word), held (c .b
 
 pub or-range-spec : {M : Type 1} → statement M
 or-range-spec =
-    tie.close (tie.spec (λ c κs. search needs) returns at-word-requires returns-2)
+    tie.close (tie.spec (λ c κs. tt) returns at-word-requires returns-2)

@@ -71,5 +71,5 @@ pub widen-spec : {M : Type 1} → statement M
 widen-spec =
     tie.close
     (tie.spec
-    (λ c κs. search needs) (λ c κs. search needs) returns turn-of-requires returns-2 word-of-requires ahead-requires
+    (λ c κs. tt) (λ c κs. tt) returns turn-of-requires returns-2 word-of-requires ahead-requires
     nearest-requires returns-3)

@@ -69,5 +69,5 @@ pub ended-spec : {M : Type 1} → statement M
 ended-spec =
     tie.close
     (tie.spec
-    (λ c κs. search needs) (λ c. search needs) (λ c. search needs) returns returns-2 (λ c κs. search needs) (λ c κs. search needs)
+    (λ c κs. search needs) (λ c. search needs) (λ c. search needs) returns returns-2 (λ c κs. tt) (λ c κs. tt)
     returns-3 returns-4)

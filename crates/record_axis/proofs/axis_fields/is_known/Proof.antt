@@ -9,4 +9,4 @@ pub is-known-spec : {M : Type 1} → statement M
 is-known-spec =
     tie.close
     (tie.spec
-    (λ c κs. search needs) (λ c κs. search needs) returns)
+    (λ c κs. tt) (λ c κs. tt) returns)

@@ -76,6 +76,6 @@ pub read-axis-spec : {M : Type 1} → statement M
 read-axis-spec =
     tie.close
     (tie.spec
-    (λ c κs. search needs) (λ c. search needs) (λ c. search needs) returns (λ c κs. search needs) returns-2 (λ c κs. search needs)
-    (λ c. search needs) (λ c. search needs) returns-3 (λ c κs. search needs) cast-read-counter (λ c κs. search needs) cast-read-sampled
-    (λ c κs. search needs) returns-4 returns-5)
+    (λ c κs. search needs) (λ c. search needs) (λ c. search needs) returns (λ c κs. tt) returns-2 (λ c κs. search needs)
+    (λ c. search needs) (λ c. search needs) returns-3 (λ c κs. tt) cast-read-counter (λ c κs. tt) cast-read-sampled
+    (λ c κs. tt) returns-4 returns-5)

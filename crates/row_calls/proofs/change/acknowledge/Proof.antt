@@ -22,4 +22,4 @@ returns c =
     c .on-sampled .ensures ∙ sampled-makes acknowledgeAxis (o .before .args .r) (o .open .result) (o .open .ensures)
 
 pub acknowledge-spec : {M : Type 1} → statement M
-acknowledge-spec = tie.close (tie.spec (λ c κs. search needs) on-sampled-requires returns)
+acknowledge-spec = tie.close (tie.spec (λ c κs. tt) on-sampled-requires returns)

@@ -21,4 +21,4 @@ returns c =
     c .on-sampled .ensures ∙ sampled-makes armAxis (o .before .args .r) (o .open .result) (o .open .ensures)
 
 pub arm-spec : {M : Type 1} → statement M
-arm-spec = tie.close (tie.spec (λ c κs. search needs) on-sampled-requires returns)
+arm-spec = tie.close (tie.spec (λ c κs. tt) on-sampled-requires returns)

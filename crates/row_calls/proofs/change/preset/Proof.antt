@@ -39,5 +39,5 @@ pub preset-spec : {M : Type 1} → statement M
 preset-spec =
     tie.close
     (tie.spec
-    (λ c κs. search needs) (λ c. search needs) (λ c. search needs) (λ c. search needs) placed-requires
+    (λ c κs. tt) (λ c. search needs) (λ c. search needs) (λ c. search needs) placed-requires
     (λ c. search needs) placed-requires-2 returns returns-2 returns-3 returns-4)

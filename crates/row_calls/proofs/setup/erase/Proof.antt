@@ -19,4 +19,4 @@ returns c = λ r. ap To (c .pack .ensures ∙ ap rowOf (c .before .erased .ensur
 
 pub erase-spec : {M : Type 1} → statement M
 erase-spec =
-    tie.close (tie.spec (λ c κs. search needs) pack-requires returns)
+    tie.close (tie.spec (λ c κs. tt) pack-requires returns)

@@ -9,4 +9,4 @@ returns c = let m = c .before .before in rw (toZ-ofZ w64 _ (m .before .before .b
 
 pub preset-spec : {M : Type 1} → statement M
 preset-spec =
-    tie.close (tie.spec (λ c κs. search needs) (λ c. search needs) returns)
+    tie.close (tie.spec (λ c κs. tt) (λ c. search needs) returns)

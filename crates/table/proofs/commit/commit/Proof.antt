@@ -18,5 +18,5 @@ pub commit-spec : {M : Type 1} → statement M
 commit-spec =
     tie.close
     (tie.spec
-    (λ c. search needs) (λ c. search needs) (λ c κs. search needs) returns (λ c κs. search needs)
-    (λ c κs. search needs) (λ c. search needs) returns-2)
+    (λ c. search needs) (λ c. search needs) (λ c κs. tt) returns (λ c κs. search needs)
+    (λ c κs. tt) (λ c. search needs) returns-2)

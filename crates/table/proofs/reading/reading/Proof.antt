@@ -22,5 +22,5 @@ pub reading-spec : {M : Type 1} → statement M
 reading-spec =
     tie.close
     (tie.spec
-    (λ c κs. search needs) (λ c. search needs) (λ c. search needs) (λ c κs. search needs) commit-requires
+    (λ c κs. tt) (λ c. search needs) (λ c. search needs) (λ c κs. tt) commit-requires
     (λ c. search needs) returns (λ c. search needs) returns-2)

@@ -21,5 +21,5 @@ pub restore-spec : {M : Type 1} → statement M
 restore-spec =
     tie.close
     (tie.spec
-    (λ c κs. search needs) (λ c. search needs) (λ c. search needs) (λ c κs. search needs) commit-requires
+    (λ c κs. tt) (λ c. search needs) (λ c. search needs) (λ c κs. tt) commit-requires
     (λ c. search needs) returns (λ c. search needs) returns-2)

@@ -22,4 +22,4 @@ pub report-spec : {M : Type 1} → statement M
 report-spec =
     tie.close
     (tie.spec
-    (λ c. search needs) (λ c κs. search needs) (λ c. search needs) (λ c. search needs) returns returns-2)
+    (λ c. search needs) (λ c κs. tt) (λ c. search needs) (λ c. search needs) returns returns-2)

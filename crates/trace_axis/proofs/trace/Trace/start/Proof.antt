@@ -9,4 +9,4 @@ returns c i = record { words = c .before .setup .ensures .table i; samples = 0 }
 
 pub start-spec : {M : Type 1} → statement M
 start-spec =
-    tie.close (tie.spec (λ c. search needs) (λ c. search needs) (λ c κs. search needs) returns)
+    tie.close (tie.spec (λ c. search needs) (λ c. search needs) (λ c κs. tt) returns)

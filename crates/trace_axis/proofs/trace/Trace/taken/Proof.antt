@@ -16,4 +16,4 @@ returns-2 c =
 
 pub taken-spec : {M : Type 1} → statement M
 taken-spec =
-    tie.close (tie.spec returns (λ c. search needs) (λ c κs. search needs) (λ c. search needs) returns-2)
+    tie.close (tie.spec returns (λ c. search needs) (λ c κs. tt) (λ c. search needs) returns-2)
