@@ -7,4 +7,4 @@ returns c = record { said = _; claimed = c .before .before .before .sample .ensu
 
 pub ubrenchip-sample-spec : {M : Type 1} → statement M
 ubrenchip-sample-spec =
-    tie.close (tie.spec (λ c κs. search needs) (λ c κs. search needs) (λ c. search needs) returns)
+    tie.close (tie.spec (λ c κs. tt) (λ c κs. tt) (λ c. search needs) returns)

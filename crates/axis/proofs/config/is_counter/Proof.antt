@@ -1,4 +1,3 @@
-use borrow.Author.Needs.{needs}
 use Rattle.axis.proofs.config.is_counter.Statement.{statement}
 use Rattle.axis.proofs.config.is_counter.Tie as tie
 

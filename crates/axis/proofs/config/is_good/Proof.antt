@@ -1,4 +1,3 @@
-use borrow.Author.Needs.{needs}
 use Rattle.axis.specs.Config.{goodConfig}
 use Rattle.axis.proofs.config.is_good.Statement.{statement}
 use Rattle.axis.proofs.config.is_good.Tie as tie

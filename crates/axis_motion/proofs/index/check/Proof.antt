@@ -1,5 +1,4 @@
 use mathlib.Core.Bool.{or-false}
-use borrow.Author.Needs.{needs}
 use Rattle.axis_motion.proofs.index.check.Statement.{statement}
 use Rattle.axis_motion.proofs.index.check.Tie as tie
 

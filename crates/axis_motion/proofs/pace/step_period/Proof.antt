@@ -1,5 +1,4 @@
 use Rattle.axis_motion.specs.Pace.{stepPeriod}
-use borrow.Author.Needs.{needs}
 use Rattle.axis_motion.proofs.pace.step_period.Statement.{statement}
 use Rattle.axis_motion.proofs.pace.step_period.Tie as tie
 

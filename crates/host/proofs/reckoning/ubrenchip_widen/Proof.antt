@@ -1,4 +1,3 @@
-use borrow.Author.Needs.{needs}
 use mathlib.Core.Path.{ap, _∙_}
 use Rattle.integers.proofs.Machine.{back}
 use Rattle.host_answers.specs.Answer.{answerTo}

@@ -1,4 +1,3 @@
-use borrow.Author.Needs.{needs}
 use mathlib.Core.Path.{ap, _∙_}
 use Rattle.host_answers.specs.Answer.{answerTest}
 use Rattle.host.proofs.records.ubrenchip_test_record.Statement.{statement}

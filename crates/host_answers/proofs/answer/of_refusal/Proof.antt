@@ -1,4 +1,3 @@
-use borrow.Author.Needs.{needs}
 use Rattle.host_answers.proofs.answer.of_refusal.Statement.{statement}
 use Rattle.host_answers.proofs.answer.of_refusal.Tie as tie
 

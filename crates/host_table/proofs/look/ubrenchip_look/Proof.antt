@@ -1,6 +1,5 @@
 use mathlib.Core.Path.{ap, _∙_}
 use Rattle.host_answers.specs.Answer.{answerView}
-use borrow.Author.Needs.{needs}
 use Rattle.host_table.proofs.look.ubrenchip_look.Statement.{statement}
 use Rattle.host_table.proofs.look.ubrenchip_look.Tie as tie
 

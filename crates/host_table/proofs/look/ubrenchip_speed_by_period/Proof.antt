@@ -1,6 +1,5 @@
 use mathlib.Core.Path.{ap, _∙_}
 use Rattle.host_answers.specs.Answer.{answerSpeed}
-use borrow.Author.Needs.{needs}
 use Rattle.host_table.proofs.look.ubrenchip_speed_by_period.Statement.{statement}
 use Rattle.host_table.proofs.look.ubrenchip_speed_by_period.Tie as tie
 

@@ -1,5 +1,4 @@
 -- Speed by count: the three tests are the definition's one, and then the product and its quotient fit.
-use borrow.Author.Needs.{needs}
 use borrow.Author.Tests.{not-true, not-false}
 use mathlib.Core.Path.{_≡_, sym, ap, _∙_}
 use mathlib.Core.Bool.{true, _&&_}

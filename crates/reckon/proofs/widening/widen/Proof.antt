@@ -1,5 +1,4 @@
 -- Widening: the tests are the definition's, and then the word, the turn and the distance ahead meet what `nearest` asks.
-use borrow.Author.Needs.{needs}
 use borrow.Author.Tests.{not-true, not-false}
 use mathlib.Core.Path.{_≡_, sym, subst⁻¹, _∙_}
 use mathlib.Core.Bool.{true, _&&_, and-eq-true-iff}

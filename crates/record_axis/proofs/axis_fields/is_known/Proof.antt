@@ -1,4 +1,3 @@
-use borrow.Author.Needs.{needs}
 use Rattle.record_axis.proofs.axis_fields.is_known.Statement.{statement}
 use Rattle.record_axis.proofs.axis_fields.is_known.Tie as tie
 

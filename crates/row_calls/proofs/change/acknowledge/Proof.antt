@@ -4,7 +4,6 @@ use Rattle.axis_sound.proofs.SoundLaws.{opened-narrow}
 use Rattle.row_calls.specs.Change.{changed, acknowledgeAxis}
 use Rattle.row_calls.specs.Calls.{acknowledgeRow}
 use Rattle.row_calls.proofs.StatusLaws.{packs, sampled-makes}
-use borrow.Author.Needs.{needs}
 use Rattle.row_calls.proofs.change.acknowledge.Statement.{statement}
 use Rattle.row_calls.proofs.change.acknowledge.Tie as tie
 

@@ -3,7 +3,6 @@ use Rattle.axis_sound.proofs.SoundLaws.{opened-narrow}
 use Rattle.row_calls.specs.Change.{changed, armAxis}
 use Rattle.row_calls.specs.Calls.{armRow}
 use Rattle.row_calls.proofs.StatusLaws.{packs, sampled-makes}
-use borrow.Author.Needs.{needs}
 use Rattle.row_calls.proofs.change.arm.Statement.{statement}
 use Rattle.row_calls.proofs.change.arm.Tie as tie
 

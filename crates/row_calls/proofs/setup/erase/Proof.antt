@@ -5,7 +5,6 @@ use Rattle.axis.specs.Row.{rowOf, Narrow}
 use Rattle.axis.proofs.RowLaws.{waiting-held}
 use Rattle.row_calls.specs.declared.answer.Changed.the-variants.{To}
 use Rattle.row_calls.specs.Calls.{eraseRow}
-use borrow.Author.Needs.{needs}
 use Rattle.row_calls.proofs.setup.erase.Statement.{statement}
 use Rattle.row_calls.proofs.setup.erase.Tie as tie
 

@@ -8,7 +8,6 @@ use Rattle.axis.specs.declared.config.Config.{Config}
 use Rattle.axis_sound.proofs.SoundLaws.{setup-held}
 use Rattle.row_calls.specs.declared.answer.Changed.the-variants.{To}
 use Rattle.row_calls.specs.Calls.{configOf, setupRow}
-use borrow.Author.Needs.{needs}
 use Rattle.row_calls.proofs.setup.setup.Statement.{statement}
 use Rattle.row_calls.proofs.setup.setup.Tie as tie
 

@@ -7,4 +7,4 @@ returns c = c .before .before .make .ensures
 
 pub acknowledge-spec : {M : Type 1} → statement M
 acknowledge-spec =
-    tie.close (tie.spec (λ c κs. search needs) (λ c. search needs) returns)
+    tie.close (tie.spec (λ c κs. tt) (λ c. search needs) returns)
