@@ -36,7 +36,8 @@ pub on-field : {A : Type 0} (s : List ℕ) (at tag n : ℕ) (r : A) (k : ℕ →
 unfolding fieldAt
 on-field s at tag n r k = go (standsAt s at tag n)
   where
-    go : (t : Bool) → onField r (cond t (Value (numberAt s (at + 3) n) (at + 3 + n)) Bad) k ≡ cond t (k (numberAt s (at + 3) n) (at + 3 + n)) r
+    go : (t : Bool) → onField r (cond t (Value (numberAt s (at + 3) n) (at + 3 + n)) Bad) k
+        ≡ cond t (k (numberAt s (at + 3) n) (at + 3 + n)) r
     go true = refl
     go false = refl
 
