@@ -1,4 +1,4 @@
--- What the calls answer to C: document 01, "Calls that name one axis", "A port sample" and "Reasons for saying no".
+-- What the calls answer to C: document 01, "Calls that name one axis" and "Reasons for saying no".
 use lib.IntN.{ℤ, pos}
 use Rattle.refusal.specs.Refusal.{numberOf, foundIn}
 use Rattle.refusal.specs.declared.Refusal.{Refusal}

@@ -1,4 +1,4 @@
-// Answers as text on standard output.
+// Readings as text on standard output.
 use libc::STDOUT_FILENO;
 use reckon::Reckoned;
 use reckon::speed::Speed;

@@ -1,4 +1,4 @@
--- The laws of the answers: their numbers and values tell them apart.
+-- The law of the answers: their numbers tell them apart.
 use mathlib.Core.Path.{_≡_, refl, sym, ap}
 use Rattle.refusal.proofs.RefusalLaws.{told-apart, above-zero}
 use Rattle.row_calls.specs.declared.answer.Done.{Done}

@@ -1,4 +1,4 @@
-// What a view answers.
+// The answers of view: what it shows, or a refusal.
 use refusal::Refusal;
 
 // What a view shows of an axis.
