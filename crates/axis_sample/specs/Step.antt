@@ -1,16 +1,11 @@
--- A sample on an axis and on a row: document 01, "A port sample".
-use Prim.Native.Nat.{ℕ, _^_}
+-- A sample on an axis: document 01, "A port sample".
+use Prim.Native.Nat.{_^_}
 use mathlib.Core.Bool.{Bool, true, false, cond, not, _&&_, _||_}
 use mathlib.Core.List.{[], _∷_}
 use Rattle.position.specs.Position.{positionOf}
 use Rattle.axis.specs.Flags.{withPrimed}
-use Rattle.axis.specs.Row.{axisOf, rowOf}
-use Rattle.axis_sound.specs.Sound.{statusOf}
 use Rattle.axis.specs.declared.row.Axis.{Axis}
-use Rattle.axis.specs.declared.row.Row.{Row}
-use Rattle.axis_sound.specs.declared.Status.{Status}
-use Rattle.axis_sound.specs.declared.Status.the-variants.{Empty, Sampled, Counter, Broken}
-use Rattle.axis_filter.specs.Lines.{Wire, A, B, Z, rawOf}
+use Rattle.axis_filter.specs.Lines.{Wire, A, B, Z}
 use Rattle.axis_decode.specs.Decode.{isE}
 use Rattle.axis_motion.specs.Count.{countedWord, countedRange, countedDoubles}
 use Rattle.axis_motion.specs.Pace.{pacedBy}
@@ -20,7 +15,6 @@ use Rattle.axis_decode.specs.declared.Move.{Move}
 use Rattle.axis_filter.specs.declared.Line.{Line}
 use Rattle.axis_filter.specs.declared.Raw.{Raw}
 use Rattle.axis_sample.specs.declared.step.Stepped.{Stepped}
-use Rattle.axis_sample.specs.declared.step.SteppedRow.{SteppedRow}
 
 -- Priming takes the three levels as they are, and does no more.
 unfoldable pub primedBy : Axis → Raw → Axis
@@ -81,22 +75,3 @@ outcome false x s = record { axis = primedBy x s; double = false; index = false 
 -- A sample on an axis.
 unfoldable pub stepAxis : Axis → Raw → Stepped
 stepAxis x s = outcome (x .flags .primed) x s
-
--- An axis after a sample as its row, with its bits of the answer.
-abbrev pub packed : Stepped → SteppedRow
-packed s = record { row = rowOf (s .axis); double = s .double; index = s .index; broken = false }
-
--- A row that a sample leaves as it was, and whether it is broken.
-abbrev pub kept : Row → Bool → SteppedRow
-kept r b = record { row = r; double = false; index = false; broken = b }
-
--- A sample on a row, by what the row is: a sampled one steps, any other stays, and only a broken one is marked.
-unfoldable pub stepBy : Status → Row → ℕ → SteppedRow
-stepBy Sampled r nibble = packed (stepAxis (axisOf r) (rawOf nibble))
-stepBy Empty r nibble = kept r false
-stepBy Counter r nibble = kept r false
-stepBy Broken r nibble = kept r true
-
--- A sample on a row.
-unfoldable pub stepRow : Row → ℕ → SteppedRow
-stepRow r nibble = stepBy (statusOf r) r nibble

@@ -1,14 +1,12 @@
-// A sample on an axis, and on a row.
+// A sample on an axis.
 ghost use mathlib.Core.Path.{_≡_};
 ghost use mathlib.Core.Bool.{true, false};
-ghost use Rattle.axis_sound.specs.Sound.{SampledAxis};
-ghost use Rattle.axis_filter.specs.Lines.{three, rawOf};
+ghost use Rattle.axis_filter.specs.Lines.{three};
 ghost use Rattle.axis_filter.specs.Filter.{Short};
 ghost use Rattle.axis_sample.specs.Lines.{linesOf, moveTo, rises};
-ghost use Rattle.axis_sample.specs.Step.{settle, outcome, stepAxis, packed, kept, stepRow};
+ghost use Rattle.axis_sample.specs.Step.{settle, outcome, stepAxis};
 use axis::row::Axis;
 use axis::row::Flags;
-use axis::row::Row;
 use axis_decode::Move;
 use axis_decode::is_double;
 use axis_decode::move_between;
@@ -16,31 +14,18 @@ use axis_filter::Line;
 use axis_filter::Lines;
 use axis_filter::Raw;
 use axis_filter::filter::filter;
-use axis_filter::raw_of;
 use axis_motion::count::count;
 use axis_motion::count::count_doubles;
 use axis_motion::index::check;
 use axis_motion::index::home;
 use axis_motion::index::z_rises;
 use axis_motion::pace::paced;
-use axis_packing::pack::pack;
-use axis_sound::axis_in;
-use axis_sound::is_broken;
-use axis_sound::is_sampled;
 
 // The axis after a sample, and its bits of the answer.
 pub struct Stepped {
     pub axis: Axis,
     pub double: bool,
     pub index: bool,
-}
-
-// The row after a sample, and its bits of the answer.
-pub struct SteppedRow {
-    pub row: Row,
-    pub double: bool,
-    pub index: bool,
-    pub broken: bool,
 }
 
 // An axis that is not primed, after a sample: the levels are taken as they are. The flags are named one by one: with PRIMED set in place,
@@ -142,42 +127,4 @@ pub fn step_axis(x: Axis, s: Raw) -> Stepped
         return advance(x, s);
     }
     prime(x, s)
-}
-
-// A sampled axis after a sample, packed.
-fn step_sampled(x: Axis, nibble: u64) -> SteppedRow
-    requires { ⌜ SampledAxis x ⌝ }
-    ensures { λ t. ⌜ t ≡ packed (stepAxis x (rawOf nibble)) ⌝ }
-{
-    let stepped = step_axis(x, raw_of(nibble));
-    let axis = stepped.axis;
-    SteppedRow {
-        row: pack(axis),
-        double: stepped.double,
-        index: stepped.index,
-        broken: false,
-    }
-}
-
-// A row that a sample leaves as it was.
-fn keep(r: Row, broken: bool) -> SteppedRow
-    ensures { λ t. ⌜ t ≡ kept r broken ⌝ }
-{
-    SteppedRow {
-        row: r,
-        double: false,
-        index: false,
-        broken,
-    }
-}
-
-// A row after a sample: a sampled one steps, any other stays, and only a broken one is marked.
-pub fn step_row(r: Row, nibble: u64) -> SteppedRow
-    ensures { λ t. ⌜ t ≡ stepRow r nibble ⌝ }
-{
-    let axis = axis_in(r);
-    if is_sampled(r, axis) {
-        return step_sampled(axis, nibble);
-    }
-    keep(r, is_broken(r))
 }

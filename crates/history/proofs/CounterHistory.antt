@@ -14,8 +14,8 @@ use Rattle.axis_sound.specs.Sound.{statusOf}
 use Rattle.axis.specs.declared.row.Axis.{Axis}
 use Rattle.axis.specs.declared.row.Row.{Row}
 use Rattle.axis_sound.specs.declared.Status.the-variants.{Counter}
-use Rattle.axis_sample.specs.declared.step.SteppedRow.{SteppedRow}
-use Rattle.axis_sample.proofs.RowLaws.{counter-stays}
+use Rattle.row_sample.specs.declared.SteppedRow.{SteppedRow}
+use Rattle.row_sample.proofs.SampleLaws.{counter-stays}
 use Rattle.record.specs.Record.{readAs}
 use Rattle.record_axis.specs.declared.saved.Saved.{Saved}
 use Rattle.record.specs.declared.answer.Read.the-variants.{Accepted}

@@ -22,7 +22,7 @@ use Rattle.axis_sound.specs.declared.Status.{Status}
 use Rattle.axis_sound.specs.declared.Status.the-variants.{Empty, Sampled, Counter, Broken}
 use Rattle.axis_sound.proofs.SoundLaws.{counter-gives, packed-again}
 use Rattle.axis_filter.specs.Lines.{rawOf}
-use Rattle.axis_sample.specs.Step.{stepBy, stepRow}
+use Rattle.row_sample.specs.Sample.{stepBy, stepRow}
 use Rattle.record.specs.Record.{readAs}
 use Rattle.record.specs.declared.answer.Read.{Read}
 use Rattle.record.specs.declared.answer.Read.the-variants.{Accepted, Refused as Unread}

@@ -13,8 +13,8 @@ use Rattle.axis_sound.specs.Sound.{statusOf}
 use Rattle.axis.specs.declared.row.Row.{Row}
 use Rattle.axis_sound.specs.declared.Status.{Status}
 use Rattle.axis_sound.specs.declared.Status.the-variants.{Empty, Sampled, Counter, Broken}
-use Rattle.axis_sample.specs.Step.{stepBy, stepRow}
-use Rattle.axis_sample.proofs.RowLaws.{broken-stays}
+use Rattle.row_sample.specs.Sample.{stepBy, stepRow}
+use Rattle.row_sample.proofs.SampleLaws.{broken-stays}
 use Rattle.record.specs.Record.{readAs}
 use Rattle.record.specs.declared.answer.Read.{Read}
 use Rattle.record.specs.declared.answer.Read.the-variants.{Accepted, Refused as Unread}

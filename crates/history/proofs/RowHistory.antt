@@ -9,7 +9,8 @@ use Rattle.axis.specs.declared.row.Row.{Row}
 use Rattle.axis_sound.specs.declared.Status.{Status}
 use Rattle.axis_sound.specs.declared.Status.the-variants.{Empty, Sampled, Counter, Broken}
 use Rattle.axis_filter.specs.Lines.{rawOf}
-use Rattle.axis_sample.specs.Step.{stepAxis, packed, stepBy, stepRow}
+use Rattle.axis_sample.specs.Step.{stepAxis}
+use Rattle.row_sample.specs.Sample.{packed, stepBy, stepRow}
 use Rattle.axis_sample.specs.declared.step.Stepped.{Stepped}
 use Rattle.row_calls.specs.Change.{Holds}
 use Rattle.row_counter.specs.Reading.{readAxis}

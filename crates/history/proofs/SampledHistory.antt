@@ -13,7 +13,7 @@ use Rattle.axis.specs.declared.row.Row.{Row}
 use Rattle.axis_sound.specs.declared.Status.the-variants.{Sampled}
 use Rattle.axis_filter.specs.Lines.{Wire, rawOf}
 use Rattle.axis_sample.specs.Lines.{line}
-use Rattle.axis_sample.specs.Step.{stepRow}
+use Rattle.row_sample.specs.Sample.{stepRow}
 use Rattle.history.specs.Acts.{after, Legal}
 use Rattle.history.specs.Start.{Start}
 use Rattle.history.specs.Levels.{levelAt, roseAt}

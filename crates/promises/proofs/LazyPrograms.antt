@@ -12,7 +12,7 @@ use Rattle.axis_sound.specs.Sound.{statusOf}
 use Rattle.axis.specs.declared.row.Row.{Row}
 use Rattle.axis_sound.specs.declared.Status.the-variants.{Sampled}
 use Rattle.axis_filter.specs.Lines.{rawOf}
-use Rattle.axis_sample.proofs.RowLaws.{axis-after}
+use Rattle.row_sample.proofs.SampleLaws.{axis-after}
 use Rattle.axis_sample.proofs.StepLaws.{priming}
 use Rattle.table_rows.specs.Table.{axesIn, rowAt}
 use Rattle.table_port.specs.Port.{nibble, sampledTable, sampledAnswer}

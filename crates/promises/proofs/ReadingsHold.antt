@@ -14,7 +14,8 @@ use Rattle.axis_motion.specs.Count.{countedWord, countedRange, countedDoubles}
 use Rattle.axis_motion.specs.Pace.{older, pacedDirection, pacedAge, stepPeriod, pacedPeriod}
 use Rattle.axis_motion.specs.Index.{offTurn}
 use Rattle.axis_sample.specs.Lines.{placeOf, line, filtered, moveTo, rises}
-use Rattle.axis_sample.specs.Step.{primedBy, settle, outcome, stepAxis, stepBy, stepRow}
+use Rattle.axis_sample.specs.Step.{primedBy, settle, outcome, stepAxis}
+use Rattle.row_sample.specs.Sample.{stepBy, stepRow}
 use Rattle.promises.specs.Readings.{setUp, sampledBy, counted, levelled, Reading, _shows_, readings}
 
 -- HEADLINE: each of the twelve shows what document 01 states.

@@ -9,7 +9,7 @@ use borrow.Author.Tests.{eqb-true, eqb-false}
 use lib.Dec.{eqb}
 use lib.ListN.{length, replicate, length-replicate}
 use Rattle.axis.specs.declared.row.Row.{Row}
-use Rattle.axis_sample.specs.Step.{stepRow}
+use Rattle.row_sample.specs.Sample.{stepRow}
 use Rattle.table_rows.specs.Table.{axesIn, rowAt}
 use Rattle.table_port.specs.Port.{nibble, sampledAnswer}
 use Rattle.table_port.specs.declared.Sampled.{Sampled}

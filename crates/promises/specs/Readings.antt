@@ -15,7 +15,7 @@ use Rattle.fields.specs.Field.{fieldOf, flagOf}
 use Rattle.axis.specs.Kind.{X1, X2, X4}
 use Rattle.axis.specs.Row.{rowOf, fresh}
 use Rattle.axis.specs.declared.row.Row.{Row}
-use Rattle.axis_sample.specs.Step.{stepRow}
+use Rattle.row_sample.specs.Sample.{stepRow}
 
 -- The row that a setup of a kind and a depth makes.
 unfoldable pub setUp : ℕ → ℕ → Row

@@ -2,7 +2,7 @@
 use Prim.Native.Nat.{ℕ}
 use mathlib.Core.List.{List, [], _∷_}
 use Rattle.axis.specs.declared.row.Row.{Row}
-use Rattle.axis_sample.specs.Step.{stepRow}
+use Rattle.row_sample.specs.Sample.{stepRow}
 use Rattle.runs.specs.Told.{Told, marks, marksOf}
 use Rattle.runs.specs.Op.{Op, answerOf, rowAfter}
 

@@ -9,7 +9,7 @@ use Rattle.reckon.specs.Speed.{speedNumber}
 use Rattle.reckon.specs.declared.Reckoned.{Reckoned}
 use Rattle.reckon.specs.declared.Reckoned.the-variants.{Number, Refused as Unreckoned}
 use Rattle.reckon.specs.declared.speed.Speed.{Speed}
-use Rattle.axis_sample.specs.declared.step.SteppedRow.{SteppedRow}
+use Rattle.row_sample.specs.declared.SteppedRow.{SteppedRow}
 use Rattle.record.specs.declared.answer.Written.{Written}
 use Rattle.record.specs.declared.answer.Written.the-variants.{Bytes, Refused as Unwritten}
 use Rattle.row_calls.specs.declared.answer.Done.{Done}

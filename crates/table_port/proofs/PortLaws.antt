@@ -18,9 +18,9 @@ use Rattle.axis_sound.specs.Sound.{statusOf}
 use Rattle.axis.specs.declared.row.Row.{Row}
 use Rattle.axis_sound.specs.declared.Status.{Status}
 use Rattle.axis_sound.specs.declared.Status.the-variants.{Empty, Sampled, Counter, Broken}
-use Rattle.axis_sample.specs.Step.{kept, stepRow}
-use Rattle.axis_sample.specs.declared.step.SteppedRow.{SteppedRow}
-use Rattle.axis_sample.proofs.RowLaws.{row-steps, empty-stays, counter-stays, broken-stays, words-after, fourth-unread}
+use Rattle.row_sample.specs.Sample.{kept, stepRow}
+use Rattle.row_sample.specs.declared.SteppedRow.{SteppedRow}
+use Rattle.row_sample.proofs.SampleLaws.{row-steps, empty-stays, counter-stays, broken-stays, words-after, fourth-unread}
 use Rattle.table_rows.specs.Table.{axesIn, rowAt, setRow, AllWords}
 use Rattle.table_port.specs.Port.{nibble, stepAt, sampledTo, maskOf, masksTo, noted, Below}
 use Rattle.table_port.specs.Port.{sampledTable, sampledAnswer, Samples, Bits, Stays}

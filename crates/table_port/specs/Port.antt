@@ -8,8 +8,8 @@ use lib.ListN.{length}
 use Rattle.refusal.specs.Refusal.{numberOf, foundIn}
 use Rattle.refusal.specs.declared.Refusal.the-variants.{Length}
 use Rattle.fields.specs.Field.{fieldOf, flagOf}
-use Rattle.axis_sample.specs.Step.{stepRow}
-use Rattle.axis_sample.specs.declared.step.SteppedRow.{SteppedRow}
+use Rattle.row_sample.specs.Sample.{stepRow}
+use Rattle.row_sample.specs.declared.SteppedRow.{SteppedRow}
 use Rattle.table_rows.specs.Table.{axesIn, rowAt, setRow}
 use Rattle.table_port.specs.declared.Masks.{Masks}
 use Rattle.table_port.specs.declared.Sampled.{Sampled}

@@ -19,8 +19,8 @@ use Rattle.axis_sound.specs.Sound.{statusOf}
 use Rattle.axis.specs.declared.row.Row.{Row}
 use Rattle.axis_sound.specs.declared.Status.the-variants.{Sampled}
 use Rattle.axis_sound.proofs.SoundLaws.{setup-sound}
-use Rattle.axis_sample.specs.Step.{stepRow}
-use Rattle.axis_sample.proofs.RowLaws.{status-after}
+use Rattle.row_sample.specs.Sample.{stepRow}
+use Rattle.row_sample.proofs.SampleLaws.{status-after}
 use Rattle.row_view.specs.View.{viewOf}
 use Rattle.row_calls.specs.Calls.{configOf, setupRow}
 use Rattle.row_view.specs.View.{viewRow}

@@ -6,7 +6,7 @@ use Rattle.position.specs.Position.{positionOf}
 use Rattle.axis.specs.Kind.{X4}
 use Rattle.axis.specs.Row.{axisOf, rowOf, fresh}
 use Rattle.axis.specs.declared.row.Row.{Row}
-use Rattle.axis_sample.specs.Step.{stepRow}
+use Rattle.row_sample.specs.Sample.{stepRow}
 use Rattle.row_view.specs.View.{viewValue}
 use Rattle.row_calls.specs.Calls.{configOf, setupRow}
 use Rattle.row_view.specs.declared.answer.View.{View}

@@ -7,7 +7,7 @@ use lib.ListN.{length}
 use borrow.Author.Needs.{needs}
 use Rattle.axis.specs.Limit.{mostAxes}
 use Rattle.table_port.specs.Port.{nibble, sampledTo, maskOf, masksTo, noted, SamplesRow}
-use Rattle.axis_sample.specs.declared.step.SteppedRow.{SteppedRow}
+use Rattle.row_sample.specs.declared.SteppedRow.{SteppedRow}
 use Rattle.table_port.specs.declared.Masks.{Masks}
 use Rattle.table_port.specs.declared.Sampled.the-variants.{Seen}
 use Rattle.table_rows.proofs.RowsLaws.{axes-fit, axes-most}

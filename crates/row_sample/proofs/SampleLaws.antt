@@ -13,10 +13,11 @@ use Rattle.axis_sound.specs.Sound.{isSampled, statusOf, brokenBy, passes, Sampl
 use Rattle.axis.proofs.RowLaws.{comes-back, held-words}
 use Rattle.axis_sound.proofs.SoundLaws.{status-exactly, sampled-gives, sampled-from, sampled-held}
 use Rattle.axis_filter.specs.Lines.{rawOf}
-use Rattle.axis_sample.specs.Step.{stepAxis, packed, kept, stepBy, stepRow}
+use Rattle.axis_sample.specs.Step.{stepAxis}
+use Rattle.row_sample.specs.Sample.{packed, kept, stepBy, stepRow}
 use Rattle.axis_filter.specs.declared.Raw.{Raw}
-use Rattle.axis_sample.specs.declared.step.SteppedRow.{SteppedRow}
+use Rattle.row_sample.specs.declared.SteppedRow.{SteppedRow}
 use Rattle.axis_sample.proofs.KeepLaws.{keep-step}
 
 module _ (r : Row) (nibble : ℕ) where
   -- A sample on a row, once its status is known.

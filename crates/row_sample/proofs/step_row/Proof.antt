@@ -2,10 +2,11 @@ use mathlib.Core.Path.{sym, ap, _∙_}
 use Rattle.axis.specs.declared.row.Axis.{Axis}
 use Rattle.axis_sound.proofs.SoundLaws.{sampled-gives, sampled-opens}
 use Rattle.axis_filter.specs.Lines.{rawOf}
-use Rattle.axis_sample.specs.Step.{packed, stepAxis}
-use Rattle.axis_sample.proofs.RowLaws.{row-steps, other-stays}
-use Rattle.axis_sample.proofs.step.step_row.Statement.{statement}
-use Rattle.axis_sample.proofs.step.step_row.Tie as tie
+use Rattle.axis_sample.specs.Step.{stepAxis}
+use Rattle.row_sample.specs.Sample.{packed}
+use Rattle.row_sample.proofs.SampleLaws.{row-steps, other-stays}
+use Rattle.row_sample.proofs.step_row.Statement.{statement}
+use Rattle.row_sample.proofs.step_row.Tie as tie
 
 step-sampled-requires : tie.Need-step-sampled-requires
 step-sampled-requires c κs =

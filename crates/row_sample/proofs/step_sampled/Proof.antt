@@ -1,7 +1,7 @@
 use Rattle.axis_sound.proofs.SoundLaws.{sampled-held}
 use Rattle.axis_sample.proofs.KeepLaws.{sampled-short, keep-step}
-use Rattle.axis_sample.proofs.step.step_sampled.Statement.{statement}
-use Rattle.axis_sample.proofs.step.step_sampled.Tie as tie
+use Rattle.row_sample.proofs.step_sampled.Statement.{statement}
+use Rattle.row_sample.proofs.step_sampled.Tie as tie
 
 step-axis-requires : tie.Need-step-axis-requires
 step-axis-requires c κs = sampled-short (c .before .pre)
