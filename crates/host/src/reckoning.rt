@@ -1,7 +1,7 @@
 // Widening and speed by count, on plain numbers.
 ghost use mathlib.Core.Path.{_≡_};
 ghost use Rattle.reckon.specs.Widening.{widened};
-ghost use Rattle.reckon.specs.Speed.{speedByCount};
+ghost use Rattle.speed.specs.Speed.{speedByCount};
 ghost use Rattle.host_answers.specs.Answer.{answerTo, answerSpeed};
 use host_answers::answer::Answer;
 use host_answers::answer::of_reckoned;
@@ -20,5 +20,5 @@ pub extern "C" fn ubrenchip_widen(width: u64, position: i64, reading: u64) -> An
 pub extern "C" fn ubrenchip_speed_by_count(difference: i64, samples: u64, rate: u64) -> Answer
     ensures { λ r. ⌜ r ≡ answerSpeed (speedByCount difference samples rate) ⌝ }
 {
-    of_speed(reckon::speed::by_count(difference, samples, rate))
+    of_speed(speed::by_count(difference, samples, rate))
 }

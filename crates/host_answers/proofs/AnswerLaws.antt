@@ -4,11 +4,11 @@ use mathlib.Core.Path.{_≡_, refl, ap}
 use mathlib.Core.Bool.{Bool, true, false}
 use lib.IntN.{natAbs}
 use Rattle.fields.specs.Field.{bitOf}
-use Rattle.reckon.specs.Speed.{speedNumber}
 use Rattle.reckon.specs.declared.Reckoned.{Reckoned}
-use Rattle.reckon.specs.declared.speed.Speed.{Speed}
 use Rattle.reckon.proofs.ReckonedLaws.{reckoned-apart}
-use Rattle.reckon.proofs.SpeedLaws.{speed-one-number}
+use Rattle.speed.specs.Speed.{speedNumber}
+use Rattle.speed.specs.declared.Speed.{Speed}
+use Rattle.speed.proofs.SpeedLaws.{speed-one-number}
 use Rattle.record.specs.declared.answer.Tested.{Tested}
 use Rattle.record.specs.declared.answer.Written.{Written}
 use Rattle.record.proofs.AnswerLaws.{test-told, save-told}

@@ -4,9 +4,9 @@ use Rattle.refusal.specs.Refusal.{numberOf, foundIn}
 use Rattle.refusal.specs.declared.Refusal.{Refusal}
 use Rattle.fields.specs.Field.{bitOf}
 use Rattle.reckon.specs.Reckoned.{refusalIn, foundBy, valueIn}
-use Rattle.reckon.specs.Speed.{speedNumber}
 use Rattle.reckon.specs.declared.Reckoned.{Reckoned}
-use Rattle.reckon.specs.declared.speed.Speed.{Speed}
+use Rattle.speed.specs.Speed.{speedNumber}
+use Rattle.speed.specs.declared.Speed.{Speed}
 use Rattle.record.specs.Answer.{testedNumber, testedFound, writtenNumber, writtenFound, writtenBytes}
 use Rattle.record.specs.declared.answer.Tested.{Tested}
 use Rattle.record.specs.declared.answer.Written.{Written}

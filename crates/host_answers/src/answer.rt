@@ -5,11 +5,11 @@ ghost use Rattle.record.specs.Answer.{writtenBytes};
 ghost use Rattle.host_answers.specs.Answer.{answerValue, answerRefused, answerTo, answerSpeed};
 ghost use Rattle.host_answers.specs.Answer.{answerTest, answerDone, answerWritten};
 use reckon::Reckoned;
-use reckon::speed::Speed;
 use record::answer::Tested;
 use record::answer::Written;
 use refusal::Refusal;
 use row_calls::answer::Done;
+use speed::Speed;
 
 // The refusal's number, 0 for done; the layout number that LAYOUT found, else 0; and the value, 0 on a refusal.
 #[repr(C)]

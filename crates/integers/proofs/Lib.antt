@@ -1,2 +1,3 @@
 pub mod Balance
+pub mod NumberLaws
 pub mod Machine

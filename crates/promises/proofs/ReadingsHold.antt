@@ -4,8 +4,8 @@ use mathlib.Core.List.{map}
 use Rattle.integers.specs.Integer.{modZ}
 use Rattle.position.specs.Position.{inRange, positionOf}
 use Rattle.reckon.specs.Widening.{goodReading, orRange, nearestTo, widened}
-use Rattle.reckon.specs.Rounding.{rounded}
-use Rattle.reckon.specs.Speed.{goodCount, goodSpeed, speedByCount}
+use Rattle.speed.specs.Rounding.{rounded}
+use Rattle.speed.specs.Speed.{goodCount, goodSpeed, speedByCount}
 use Rattle.axis_sound.specs.Sound.{statusOf}
 use Rattle.axis_filter.specs.Lines.{levelOf}
 use Rattle.axis_filter.specs.Filter.{filterLine}

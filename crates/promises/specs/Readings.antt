@@ -6,11 +6,11 @@ use lib.IntN.{ℤ, pos, negsuc}
 use Rattle.position.specs.Position.{positionOf}
 use Rattle.refusal.specs.declared.Refusal.the-variants.{Half}
 use Rattle.reckon.specs.Widening.{widened}
-use Rattle.reckon.specs.Speed.{speedByCount}
 use Rattle.reckon.specs.declared.Reckoned.{Reckoned}
 use Rattle.reckon.specs.declared.Reckoned.the-variants.{Number, Refused}
-use Rattle.reckon.specs.declared.speed.Speed.{Speed}
-use Rattle.reckon.specs.declared.speed.Speed.the-variants.{Of}
+use Rattle.speed.specs.Speed.{speedByCount}
+use Rattle.speed.specs.declared.Speed.{Speed}
+use Rattle.speed.specs.declared.Speed.the-variants.{Of}
 use Rattle.fields.specs.Field.{fieldOf, flagOf}
 use Rattle.axis.specs.Kind.{X1, X2, X4}
 use Rattle.axis.specs.Row.{rowOf, fresh}

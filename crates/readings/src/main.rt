@@ -2,8 +2,8 @@
 mod say; // say.rt: answers as text
 
 use axis::kind::Kind;
-use reckon::speed::by_count;
 use reckon::widening::widen;
+use speed::by_count;
 use table::change::preset;
 use table::look::speed;
 use table::reading::reading;

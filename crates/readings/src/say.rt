@@ -1,11 +1,11 @@
 // Readings as text on standard output.
 use libc::STDOUT_FILENO;
 use reckon::Reckoned;
-use reckon::speed::Speed;
 use record::answer::Written;
 use refusal::Refusal;
 use row_calls::answer::Done;
 use row_view::answer::Viewed;
+use speed::Speed;
 use table::look::view;
 use table::saving::save;
 use text::put::size;

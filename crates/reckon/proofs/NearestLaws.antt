@@ -12,6 +12,7 @@ use lib.IntN.{ℤ, pos, natAbs, _+ℤ_, _-ℤ_}
 use lib.Pow.{pow-pos}
 use Rattle.integers.specs.Integer.{plus, minus, modZ}
 use Rattle.integers.proofs.Balance.{eqZ, bal-add, bal-sub, modZ-lt, Turns, turns, mod-turns, near-one, Decided, yes, no, test}
+use Rattle.integers.proofs.NumberLaws.{far-cases, far-sub}
 use Rattle.position.specs.Position.{inRange}
 use Rattle.refusal.specs.declared.Refusal.the-variants.{Value, Half, Range}
 use Rattle.reckon.specs.declared.Reckoned.{Reckoned}
@@ -19,7 +20,6 @@ use Rattle.reckon.specs.declared.Reckoned.the-variants.{Number, Refused}
 use Rattle.reckon.specs.Widening.{goodWidth, goodReading, orRange, nearestTo, widened}
 use Rattle.reckon.specs.Nearest.{Nearest, Verdict, value, half, range, at}
 use Rattle.reckon.proofs.ReckonedLaws.{refused-not}
-use Rattle.reckon.proofs.NumberLaws.{far-cases, far-sub}
 use Rattle.reckon.proofs.WideningLaws.{good-is, good-from, accepted, below-half, above-half, at-half}
 
 -- ---- where a position p lies from W: t ahead, or t behind, its low bits r

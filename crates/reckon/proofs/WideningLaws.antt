@@ -10,12 +10,12 @@ use lib.Pow.{pow-pos, pow-add}
 use lib.IntN.{ℤ, pos, _+ℤ_, _-ℤ_}
 use Rattle.integers.specs.Integer.{modZ}
 use Rattle.integers.proofs.Balance.{Decided, yes, no, test, eqZ, bal-add, bal-sub, mod-turns}
+use Rattle.integers.proofs.NumberLaws.{between}
 use Rattle.position.specs.Position.{inRange, isWord, positionOf, wordOf}
 use Rattle.position.proofs.PositionLaws.{range-no, position-in-range, bal-position, position-word}
 use Rattle.refusal.specs.declared.Refusal.the-variants.{Value, Half, Range}
 use Rattle.reckon.specs.declared.Reckoned.the-variants.{Refused}
 use Rattle.reckon.specs.Widening.{goodWidth, goodReading, orRange, nearestTo, widened, aheadOf}
-use Rattle.reckon.proofs.NumberLaws.{between}
 
 -- ---- what the three tests of a good reading say
 

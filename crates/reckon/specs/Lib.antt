@@ -1,5 +1,3 @@
 pub mod Reckoned
 pub mod Widening
 pub mod Nearest
-pub mod Rounding
-pub mod Speed

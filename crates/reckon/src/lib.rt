@@ -1,7 +1,6 @@
-// Arithmetic on plain numbers, with no table: widening a narrow reading, and speed by count.
+// Widening the reading of a narrow counter, on plain numbers, with no table.
 
 pub mod widening; // widening.rt: a narrow counter's reading
-pub mod speed; // speed.rt: division to the nearest, and speed by count
 
 use refusal::Refusal;
 

@@ -9,10 +9,10 @@ use lib.IntN.{ℤ, pos, negsuc, natAbs, _-ℤ_, _*ℤ_}
 use borrow.Author.Tests.{eq-eqb, ne-eqb, le-leb}
 use Rattle.integers.proofs.Balance.{Decided, yes, no, test}
 use Rattle.refusal.specs.declared.Refusal.the-variants.{Kind as KIND, Value as VALUE, NoPeriod as NO-PERIOD}
-use Rattle.reckon.specs.Rounding.{rounded}
-use Rattle.reckon.specs.Speed.{speedRefusal, goodCount, goodSamples, goodRate, goodSpeed, speedByCount}
-use Rattle.reckon.specs.declared.speed.Speed.the-variants.{Of, Refused}
-use Rattle.reckon.proofs.SpeedLaws.{unsped-not, speed-near}
+use Rattle.speed.specs.Rounding.{rounded}
+use Rattle.speed.specs.Speed.{speedRefusal, goodCount, goodSamples, goodRate, goodSpeed, speedByCount}
+use Rattle.speed.specs.declared.Speed.the-variants.{Of, Refused}
+use Rattle.speed.proofs.SpeedLaws.{unsped-not, speed-near}
 use Rattle.axis.specs.Row.{axisOf}
 use Rattle.axis_sound.specs.Sound.{statusOf, SoundPace}
 use Rattle.axis.specs.declared.row.Pace.{Pace}

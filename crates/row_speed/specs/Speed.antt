@@ -4,9 +4,9 @@ use mathlib.Core.Bool.{cond}
 use lib.Dec.{eqb}
 use lib.IntN.{ℤ, pos, negsuc}
 use Rattle.refusal.specs.declared.Refusal.the-variants.{Kind as KIND, Value as VALUE, NoPeriod as NO-PERIOD}
-use Rattle.reckon.specs.Speed.{goodRate, speedByCount}
-use Rattle.reckon.specs.declared.speed.Speed.{Speed}
-use Rattle.reckon.specs.declared.speed.Speed.the-variants.{Refused}
+use Rattle.speed.specs.Speed.{goodRate, speedByCount}
+use Rattle.speed.specs.declared.Speed.{Speed}
+use Rattle.speed.specs.declared.Speed.the-variants.{Refused}
 use Rattle.axis.specs.Row.{axisOf}
 use Rattle.axis.specs.declared.row.Pace.{Pace}
 use Rattle.axis.specs.declared.row.Row.{Row}

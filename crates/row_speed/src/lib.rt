@@ -6,8 +6,8 @@ use axis::row::Pace;
 use axis::row::Row;
 use axis_sound::Status;
 use axis_sound::open;
-use reckon::speed::Speed;
 use refusal::Refusal;
+use speed::Speed;
 
 // One count, with the sign of a direction.
 fn sign(direction: u8) -> i64
@@ -30,13 +30,13 @@ fn larger(period: u32, age: u32) -> u64
 fn by_period(p: Pace, rate: u64) -> Speed
     ensures { λ r. ⌜ r ≡ speedOf rate p ⌝ }
 {
-    if !reckon::speed::is_rate(rate) {
+    if !speed::is_rate(rate) {
         return Speed::Refused(Refusal::Value);
     }
     if p.period == 0 {
         return Speed::Refused(Refusal::NoPeriod);
     }
-    reckon::speed::by_count(sign(p.direction), larger(p.period, p.age), rate)
+    speed::by_count(sign(p.direction), larger(p.period, p.age), rate)
 }
 
 // Speed by period, at a rate in samples a second.

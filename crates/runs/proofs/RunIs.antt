@@ -10,9 +10,9 @@ use lib.ListN.{length}
 use Rattle.refusal.specs.declared.Refusal.{Refusal}
 use Rattle.reckon.specs.declared.Reckoned.{Reckoned}
 use Rattle.reckon.specs.declared.Reckoned.the-variants.{Number, Refused as Unreckoned}
-use Rattle.reckon.specs.declared.speed.Speed.{Speed}
-use Rattle.reckon.specs.declared.speed.Speed.the-variants.{Refused as Unsped}
-use Rattle.reckon.proofs.SpeedLaws.{speed-one-number}
+use Rattle.speed.specs.declared.Speed.{Speed}
+use Rattle.speed.specs.declared.Speed.the-variants.{Refused as Unsped}
+use Rattle.speed.proofs.SpeedLaws.{speed-one-number}
 use Rattle.axis.specs.declared.row.Row.{Row}
 use Rattle.record.specs.declared.answer.Written.{Written}
 use Rattle.record.specs.declared.answer.Written.the-variants.{Refused as Unwritten}

@@ -5,10 +5,10 @@ use mathlib.Core.List.{List}
 use lib.IntN.{ℤ}
 use lib.ListN.{take}
 use Rattle.refusal.specs.declared.Refusal.{Refusal}
-use Rattle.reckon.specs.Speed.{speedNumber}
 use Rattle.reckon.specs.declared.Reckoned.{Reckoned}
 use Rattle.reckon.specs.declared.Reckoned.the-variants.{Number, Refused as Unreckoned}
-use Rattle.reckon.specs.declared.speed.Speed.{Speed}
+use Rattle.speed.specs.Speed.{speedNumber}
+use Rattle.speed.specs.declared.Speed.{Speed}
 use Rattle.row_sample.specs.declared.SteppedRow.{SteppedRow}
 use Rattle.record.specs.declared.answer.Written.{Written}
 use Rattle.record.specs.declared.answer.Written.the-variants.{Bytes, Refused as Unwritten}

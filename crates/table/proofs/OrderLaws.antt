@@ -17,9 +17,9 @@ use Rattle.refusal.proofs.RefusalLaws.{after-not, after-sooner, after-either}
 use Rattle.refusal.specs.declared.Refusal.{Refusal}
 use Rattle.refusal.specs.declared.Refusal.the-variants.{Length, Axis, Broken as BROKEN, Empty as EMPTY, Kind as KIND}
 use Rattle.reckon.specs.Reckoned.{refusalIn}
-use Rattle.reckon.specs.Speed.{speedRefusal}
 use Rattle.reckon.specs.declared.Reckoned.the-variants.{Refused as Unreckoned}
-use Rattle.reckon.specs.declared.speed.Speed.the-variants.{Refused as Unsped}
+use Rattle.speed.specs.Speed.{speedRefusal}
+use Rattle.speed.specs.declared.Speed.the-variants.{Refused as Unsped}
 use Rattle.axis.specs.Limit.{mostAxes}
 use Rattle.axis.specs.Config.{goodConfig}
 use Rattle.axis.specs.Row.{axisOf}

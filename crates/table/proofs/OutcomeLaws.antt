@@ -4,7 +4,7 @@ use mathlib.Core.Path.{_≡_}
 use mathlib.Core.List.{List}
 use Rattle.refusal.proofs.OutcomeLaws.{one}
 use Rattle.reckon.specs.declared.Reckoned.{Reckoned}
-use Rattle.reckon.specs.declared.speed.Speed.{Speed}
+use Rattle.speed.specs.declared.Speed.{Speed}
 use Rattle.record.specs.declared.answer.Written.{Written}
 use Rattle.axis.specs.declared.row.Row.{Row}
 use Rattle.row_calls.specs.declared.answer.Changed.{Changed}

@@ -6,8 +6,8 @@ use mathlib.Core.List.{List}
 use lib.ListN.{length, getD, take, drop}
 use Rattle.reckon.specs.declared.Reckoned.{Reckoned}
 use Rattle.reckon.specs.declared.Reckoned.the-variants.{Refused as Unreckoned}
-use Rattle.reckon.specs.declared.speed.Speed.{Speed}
-use Rattle.reckon.specs.declared.speed.Speed.the-variants.{Refused as Unsped}
+use Rattle.speed.specs.declared.Speed.{Speed}
+use Rattle.speed.specs.declared.Speed.the-variants.{Refused as Unsped}
 use Rattle.record.specs.declared.answer.Written.{Written}
 use Rattle.record.specs.declared.answer.Written.the-variants.{Refused as Unwritten}
 use Rattle.axis.specs.declared.row.Row.{Row}

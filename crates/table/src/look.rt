@@ -1,8 +1,8 @@
 // View, and speed by period: the calls that only look.
 ghost use mathlib.Core.Path.{_≡_};
 ghost use Rattle.table.specs.Call.{viewedIn, speedIn};
-use reckon::speed::Speed;
 use row_view::answer::Viewed;
+use speed::Speed;
 use table_rows::Located;
 use table_rows::locate;
 

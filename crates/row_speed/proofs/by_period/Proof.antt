@@ -4,7 +4,7 @@ use borrow.Author.Tests.{not-true, not-false, eq-eqb, ne-eqb}
 use mir.Syntax.{w64}
 use mir.Val.{SFits}
 use Rattle.integers.proofs.Machine.{back}
-use Rattle.reckon.specs.Speed.{goodRate}
+use Rattle.speed.specs.Speed.{goodRate}
 use Rattle.row_speed.specs.Speed.{speedOf}
 use borrow.Author.Needs.{needs}
 use Rattle.row_speed.proofs.by_period.Statement.{statement}

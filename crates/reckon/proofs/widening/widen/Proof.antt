@@ -5,10 +5,10 @@ use mathlib.Core.Bool.{true, _&&_, and-eq-true-iff}
 use Prim.Native.Nat.{ℕ, _^_, _≤_, _<_}
 use lib.Pow.{pow-pos, pow-mono}
 use Rattle.integers.proofs.Machine.{back}
+use Rattle.integers.proofs.NumberLaws.{between}
 use Rattle.position.specs.Position.{inRange, wordOf}
 use Rattle.position.proofs.PositionLaws.{word-holds}
 use Rattle.reckon.specs.Widening.{goodWidth}
-use Rattle.reckon.proofs.NumberLaws.{between}
 use Rattle.reckon.proofs.WideningLaws.{bad-place, bad-reading, ahead-small, by-word}
 use Rattle.reckon.proofs.widening.widen.Statement.{statement}
 use Rattle.reckon.proofs.widening.widen.Tie as tie

@@ -9,9 +9,9 @@ use mir.Facts.{toZ-pos}
 use Rattle.integers.specs.Integer.{plus, minus}
 use Rattle.integers.proofs.Balance.{bal-neg, ltZ-true, ltZ-false}
 use Rattle.integers.proofs.Machine.{back, fits-size}
-use Rattle.reckon.proofs.RoundingLaws.{away-up, away-down}
-use Rattle.reckon.proofs.speed.away.Statement.{statement}
-use Rattle.reckon.proofs.speed.away.Tie as tie
+use Rattle.speed.proofs.RoundingLaws.{away-up, away-down}
+use Rattle.speed.proofs.away.Statement.{statement}
+use Rattle.speed.proofs.away.Tie as tie
 
 module _ (s : tie.Start) where
   read : toZ w64 (s .args .divisor) ≡ pos (s .args .divisor)

@@ -5,12 +5,12 @@ use lib.Dec.{ltb, leb}
 use lib.IntN.{ℤ, pos, natAbs, _*ℤ_, _-ℤ_}
 use Rattle.integers.specs.Integer.{floorZ}
 use Rattle.refusal.specs.declared.Refusal.the-variants.{Value}
-use Rattle.reckon.specs.Rounding.{rounded}
 use Rattle.reckon.specs.Reckoned.{refusalIn}
 use Rattle.reckon.specs.declared.Reckoned.{Reckoned}
 use Rattle.reckon.specs.declared.Reckoned.the-variants.{Number, Refused as Unreckoned}
-use Rattle.reckon.specs.declared.speed.Speed.{Speed}
-use Rattle.reckon.specs.declared.speed.Speed.the-variants.{Of, Refused}
+use Rattle.speed.specs.Rounding.{rounded}
+use Rattle.speed.specs.declared.Speed.{Speed}
+use Rattle.speed.specs.declared.Speed.the-variants.{Of, Refused}
 
 -- A speed's number, as a calculation answers it.
 abbrev pub speedNumber : Speed → Reckoned

@@ -6,10 +6,10 @@ use mir.Syntax.{w64}
 use mir.Val.{toZ, ofZ}
 use mir.Facts.{toZ-pos}
 use Rattle.integers.proofs.Machine.{back, back-ok}
-use Rattle.reckon.specs.Rounding.{awayFrom}
-use Rattle.reckon.proofs.RoundingLaws.{Sized, quotient, fits-twice, fits-dividend, fits-divisor, fits-quotient}
-use Rattle.reckon.proofs.speed.to_nearest.Statement.{statement}
-use Rattle.reckon.proofs.speed.to_nearest.Tie as tie
+use Rattle.speed.specs.Rounding.{awayFrom}
+use Rattle.speed.proofs.RoundingLaws.{Sized, quotient, fits-twice, fits-dividend, fits-divisor, fits-quotient}
+use Rattle.speed.proofs.to_nearest.Statement.{statement}
+use Rattle.speed.proofs.to_nearest.Tie as tie
 
 module _ (s : tie.Start) where
   read : toZ w64 (ofZ w64 (s .args .n)) ≡ s .args .n

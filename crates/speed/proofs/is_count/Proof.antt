@@ -1,7 +1,7 @@
 use Rattle.integers.proofs.Machine.{back, upper, lower}
-use Rattle.reckon.specs.Speed.{goodCount}
-use Rattle.reckon.proofs.speed.is_count.Statement.{statement}
-use Rattle.reckon.proofs.speed.is_count.Tie as tie
+use Rattle.speed.specs.Speed.{goodCount}
+use Rattle.speed.proofs.is_count.Statement.{statement}
+use Rattle.speed.proofs.is_count.Tie as tie
 
 returns : tie.Need-returns
 unfolding goodCount

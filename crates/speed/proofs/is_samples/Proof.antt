@@ -1,6 +1,6 @@
 use mathlib.Core.Path.{refl}
-use Rattle.reckon.proofs.speed.is_samples.Statement.{statement}
-use Rattle.reckon.proofs.speed.is_samples.Tie as tie
+use Rattle.speed.proofs.is_samples.Statement.{statement}
+use Rattle.speed.proofs.is_samples.Tie as tie
 
 returns : tie.Need-returns
 returns c = refl

@@ -1,9 +1,9 @@
-// Division to the nearest whole number, and speed by count.
+// Division to the nearest whole number, and speed by count, on plain numbers, with no table.
 ghost use mathlib.Core.Path.{_≡_};
 ghost use Prim.Native.Nat.{_<_, _^_};
 ghost use lib.IntN.{natAbs};
-ghost use Rattle.reckon.specs.Rounding.{awayFrom, rounded};
-ghost use Rattle.reckon.specs.Speed.{goodCount, goodSamples, goodRate, speedByCount};
+ghost use Rattle.speed.specs.Rounding.{awayFrom, rounded};
+ghost use Rattle.speed.specs.Speed.{goodCount, goodSamples, goodRate, speedByCount};
 use refusal::Refusal;
 
 // What a speed answers: thousandths of a count a second, or the reason for saying no.

@@ -9,15 +9,15 @@ use borrow.Author.Tests.{ltb-true}
 use lib.IntN.{ℤ, pos, natAbs, _-ℤ_, _*ℤ_}
 use Rattle.integers.specs.Integer.{plus, minus, modZ, floorZ}
 use Rattle.integers.proofs.Balance.{Decided, yes, no, test, abs-is, bal-sub, bal-scale, modZ-lt, floor-is}
+use Rattle.integers.proofs.NumberLaws.{between, far-cases, far-sub}
 use Rattle.refusal.specs.declared.Refusal.{Refusal}
 use Rattle.refusal.specs.declared.Refusal.the-variants.{Value}
-use Rattle.reckon.specs.declared.speed.Speed.{Speed}
-use Rattle.reckon.specs.declared.speed.Speed.the-variants.{Of, Refused}
-use Rattle.reckon.specs.Rounding.{rounded}
-use Rattle.reckon.specs.Speed.{speedNumber, goodCount, goodSamples, goodRate, goodSpeed, speedByCount, countedFrom, angleBound}
 use Rattle.reckon.proofs.ReckonedLaws.{refused-not}
-use Rattle.reckon.proofs.NumberLaws.{between, far-cases, far-sub}
-use Rattle.reckon.proofs.RoundingLaws.{rounds}
+use Rattle.speed.specs.declared.Speed.{Speed}
+use Rattle.speed.specs.declared.Speed.the-variants.{Of, Refused}
+use Rattle.speed.specs.Rounding.{rounded}
+use Rattle.speed.specs.Speed.{speedNumber, goodCount, goodSamples, goodRate, goodSpeed, speedByCount, countedFrom, angleBound}
+use Rattle.speed.proofs.RoundingLaws.{rounds}
 
 -- ---- a speed and its number
 

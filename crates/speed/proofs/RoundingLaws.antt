@@ -13,8 +13,8 @@ use mir.Val.{SFits}
 use Rattle.integers.specs.Integer.{plus, minus}
 use Rattle.integers.proofs.Balance.{Decided, yes, no, test, abs-is, bal-add, bal-neg, bal-times, bal-scale, size-add}
 use Rattle.integers.proofs.Machine.{fits-size, no-pos, quot-down}
-use Rattle.reckon.specs.Rounding.{awayFrom, rounded, Rounds}
-use Rattle.reckon.proofs.NumberLaws.{far-cases, abs-neg, scale-neg, far-neg}
+use Rattle.integers.proofs.NumberLaws.{far-cases, abs-neg, scale-neg, far-neg}
+use Rattle.speed.specs.Rounding.{awayFrom, rounded, Rounds}
 
 -- ---- the machine's quotient, of numbers of the size that the code allows
 

@@ -10,11 +10,11 @@ use mir.Val.{toZ, ofZ, SFits}
 use mir.Facts.{toZ-pos}
 use Rattle.integers.proofs.Balance.{abs-is}
 use Rattle.integers.proofs.Machine.{back, back-ok, fits-size}
-use Rattle.reckon.specs.Speed.{goodSpeed, speedByCount}
-use Rattle.reckon.specs.declared.speed.Speed.the-variants.{Of}
-use Rattle.reckon.proofs.SpeedLaws.{Limits, limits, product-small}
-use Rattle.reckon.proofs.speed.by_count.Statement.{statement}
-use Rattle.reckon.proofs.speed.by_count.Tie as tie
+use Rattle.speed.specs.Speed.{goodSpeed, speedByCount}
+use Rattle.speed.specs.declared.Speed.the-variants.{Of}
+use Rattle.speed.proofs.SpeedLaws.{Limits, limits, product-small}
+use Rattle.speed.proofs.by_count.Statement.{statement}
+use Rattle.speed.proofs.by_count.Tie as tie
 
 -- the three tests are the one of the definition
 tested : (c : tie.After-is-rate) → let a = c .before .before .before .args in
