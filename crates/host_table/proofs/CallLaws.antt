@@ -1,22 +1,15 @@
--- One outcome for each export.
+-- One outcome for each export; restore's is in host_change, with those of the other calls that make another row.
 use mathlib.Core.Path.{_≡_}
 use mathlib.Core.List.{List}
 use Prim.Native.Nat.{ℕ}
 use Rattle.refusal.proofs.OutcomeLaws.{one}
-use Rattle.axis.specs.declared.row.Row.{Row}
-use Rattle.row_calls.specs.declared.answer.Changed.{Changed}
 use Rattle.table.specs.Call.{viewedIn, speedIn}
 use Rattle.host_answers.specs.declared.answer.Answer.{Answer}
 use Rattle.host_answers.specs.Answer.{answerSpeed, answerView}
-use Rattle.table.proofs.OutcomeLaws.{makes-one, reading-one as read-one, save-one as saved-one}
-use Rattle.host_table.specs.Call.{MakesToC, ReadsToC, SavesToC}
+use Rattle.table.proofs.OutcomeLaws.{reading-one as read-one, save-one as saved-one}
+use Rattle.host_table.specs.Call.{ReadsToC, SavesToC}
 use Rattle.host_answers.proofs.ShownLaws.{one-shown}
 use Rattle.host_answers.specs.declared.view.ViewAnswer.{ViewAnswer}
-
--- ubrenchip_setup, ubrenchip_erase, ubrenchip_preset, ubrenchip_arm, ubrenchip_acknowledge and ubrenchip_restore, each by its rule
-pub made-one : (rule : Row → Changed) (t : List ℕ) (k : ℕ) {u v : List ℕ} {a b : Answer} →
-    MakesToC rule t k u a → MakesToC rule t k v b → (a ≡ b) × (u ≡ v)
-made-one rule t k = one-shown (λ d e. makes-one rule t k)
 
 -- ubrenchip_reading
 pub reading-one : (x : ℕ) (t : List ℕ) (k : ℕ) {u v : List ℕ} {a b : Answer} →

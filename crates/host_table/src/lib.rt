@@ -1,6 +1,4 @@
-// Every call that names an axis, for C: each passes its arguments on to the table's own call and shows the answer as C structs.
-pub mod setup; // setup.rt: setup and erase
-pub mod change; // change.rt: preset, arm and acknowledge
+// The other calls that name an axis, for C: each passes its arguments on to the table's own call and shows the answer as C structs.
 pub mod look; // look.rt: view, and speed by period
 pub mod reading; // reading.rt: a reading of a narrow counter
 pub mod saving; // saving.rt: save and restore

@@ -1,6 +1,7 @@
 // Save and restore.
 ghost use Rattle.row_saving.specs.Saving.{restoreRow};
-ghost use Rattle.host_table.specs.Call.{MakesToC, SavesToC};
+ghost use Rattle.host_change.specs.Making.{MakesToC};
+ghost use Rattle.host_table.specs.Call.{SavesToC};
 use host_answers::answer::Answer;
 use host_answers::answer::of_done;
 use host_answers::answer::of_written;

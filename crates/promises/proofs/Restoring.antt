@@ -15,7 +15,7 @@ use Rattle.row_saving.specs.Saving.{restoreRow, saveRow, savedIn, savedOf}
 use Rattle.row_calls.specs.declared.answer.Changed.the-variants.{To}
 use Rattle.row_saving.proofs.SaveLaws.{restore-is, restored-save, saved-restore}
 use Rattle.table_rows.specs.Table.{axesIn, rowAt}
-use Rattle.table.specs.Call.{ruled, tableAfter}
+use Rattle.table_change.specs.Making.{ruled, tableAfter}
 use Rattle.runs.proofs.CallLaws.{ruled-is, by-rule}
 
 module _ (t : List ℕ) (k : ℕ) (h : k < axesIn (length t)) where

@@ -4,10 +4,10 @@ mod say; // say.rt: answers as text
 use axis::kind::Kind;
 use reckon::widening::widen;
 use speed::by_count;
-use table::change::preset;
 use table::look::speed;
 use table::reading::reading;
-use table::setup::setup;
+use table_change::change::preset;
+use table_change::setup::setup;
 use table_port::sample;
 
 // A table of one axis, set up.

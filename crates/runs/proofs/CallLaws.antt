@@ -25,8 +25,8 @@ use Rattle.table_rows.specs.declared.Located.the-variants.{At, Refused}
 use Rattle.table_rows.proofs.RowsLaws.{axes-fit, axes-only, length-setRow, row-same, row-other, table-ext}
 use Rattle.table_rows.proofs.LocatedLaws.{found-at, found}
 use Rattle.table_port.proofs.PortLaws.{sample-length}
-use Rattle.table.specs.Call.{ruled, tableAfter}
-use Rattle.table.proofs.CallLaws.{makes-spares}
+use Rattle.table_change.specs.Making.{ruled, tableAfter}
+use Rattle.table_change.proofs.MakingLaws.{makes-spares}
 use Rattle.runs.specs.Told.{refused, toldDone, toldNumber}
 use Rattle.runs.specs.Op.{Look, Op, changes, restore, reading, looks, ruleOf, answerOf, rowAfter, RefusedFor}
 use Rattle.runs.specs.Run.{Call, port, names, tableBy, tableNext, answerIn, heardOf}

@@ -1,5 +1,5 @@
--- A call of a run is what the contract of that call promises: `Samples` of table_port; `Makes`, `ReadingMakes`, `SaveMakes`,
--- `viewedIn` and `speedIn` of table.
+-- A call of a run is what the contract of that call promises: `Samples` of table_port; `Makes` of table_change; `ReadingMakes`,
+-- `SaveMakes`, `viewedIn` and `speedIn` of table.
 use Prim.Native.Nat.{ℕ}
 use native.Mathlib.Omega.{arith}
 use mathlib.Core.Path.{_≡_, refl, sym, ap, _∙_}
@@ -35,7 +35,8 @@ use Rattle.table_rows.specs.declared.Located.{Located}
 use Rattle.table_rows.specs.declared.Located.the-variants.{At, Refused}
 use Rattle.table_port.specs.Port.{Samples}
 use Rattle.table_port.specs.declared.Sampled.{Sampled}
-use Rattle.table.specs.Call.{Makes, viewedIn, ReadingMakes, speedIn, SaveMakes}
+use Rattle.table_change.specs.Making.{Makes}
+use Rattle.table.specs.Call.{viewedIn, ReadingMakes, speedIn, SaveMakes}
 use Rattle.runs.specs.Told.{Told, refused, toldDone, toldView, toldNumber, toldSpeed, toldBytes}
 use Rattle.runs.specs.Op.{Op, view, speed, save, changes, restore, reading, looks, lookRow, ruleOf, answerOf}
 use Rattle.runs.specs.Run.{port, tableBy, tableNext, bitsOf, answerIn, heardOf, Says}

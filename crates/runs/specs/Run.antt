@@ -11,7 +11,7 @@ use Rattle.table_rows.specs.Located.{located, onFound}
 use Rattle.table_port.specs.Port.{sampledTable, sampledAnswer}
 use Rattle.table_port.specs.declared.Sampled.{Sampled}
 use Rattle.table_port.specs.declared.Sampled.the-variants.{Seen, Refused as Unsampled}
-use Rattle.table.specs.Call.{ruled, tableAfter}
+use Rattle.table_change.specs.Making.{ruled, tableAfter}
 use Rattle.runs.specs.Told.{Told, marks, refused}
 use Rattle.runs.specs.Op.{Op, ruleOf, answerOf}
 

@@ -1,4 +1,4 @@
--- Each public call's claim admits one outcome: document 01, "Programs that would slip past a lazy claim".
+-- A view, a reading, a speed by period and a save each have one outcome: document 01, "Programs that would slip past a lazy claim".
 use Prim.Native.Nat.{ℕ}
 use mathlib.Core.Path.{_≡_}
 use mathlib.Core.List.{List}
@@ -6,16 +6,8 @@ use Rattle.refusal.proofs.OutcomeLaws.{one}
 use Rattle.reckon.specs.declared.Reckoned.{Reckoned}
 use Rattle.speed.specs.declared.Speed.{Speed}
 use Rattle.record.specs.declared.answer.Written.{Written}
-use Rattle.axis.specs.declared.row.Row.{Row}
-use Rattle.row_calls.specs.declared.answer.Changed.{Changed}
-use Rattle.row_calls.specs.declared.answer.Done.{Done}
 use Rattle.row_view.specs.declared.answer.Viewed.{Viewed}
-use Rattle.table.specs.Call.{Makes, viewedIn, ReadingMakes, speedIn, SaveMakes}
-
--- HEADLINE: setup, erase, preset, arm, acknowledge and restore, each by its rule, have one outcome.
-pub makes-one : (rule : Row → Changed) (t : List ℕ) (k : ℕ) {u v : List ℕ} {a b : Done} →
-    Makes rule t k u a → Makes rule t k v b → (a ≡ b) × (u ≡ v)
-makes-one rule t k w z = (one (w .answer) (z .answer), one (w .table) (z .table))
+use Rattle.table.specs.Call.{viewedIn, ReadingMakes, speedIn, SaveMakes}
 
 -- HEADLINE: a reading has one outcome.
 pub reading-one : (x : ℕ) (t : List ℕ) (k : ℕ) {u v : List ℕ} {a b : Reckoned} →

@@ -1,7 +1,7 @@
 // A reading of a narrow counter.
 ghost use Rattle.table.specs.Call.{ReadingMakes};
-use crate::commit::commit;
 use reckon::Reckoned;
+use table_change::commit::commit;
 use table_rows::Located;
 use table_rows::locate;
 

@@ -1,9 +1,10 @@
 // Save and restore.
 ghost use Rattle.row_saving.specs.Saving.{restoreRow};
-ghost use Rattle.table.specs.Call.{Makes, SaveMakes};
-use crate::commit::commit;
+ghost use Rattle.table_change.specs.Making.{Makes};
+ghost use Rattle.table.specs.Call.{SaveMakes};
 use record::answer::Written;
 use row_calls::answer::Done;
+use table_change::commit::commit;
 use table_rows::Located;
 use table_rows::locate;
 

@@ -28,7 +28,8 @@ use Rattle.row_view.specs.declared.answer.Viewed.the-variants.{Shows}
 use Rattle.table_rows.specs.Table.{axesIn, rowAt, setRow}
 use Rattle.table_rows.specs.Located.{located}
 use Rattle.table_port.specs.Port.{nibble, sampledTo, sampledTable}
-use Rattle.table.specs.Call.{tableAfter, viewedIn}
+use Rattle.table_change.specs.Making.{tableAfter}
+use Rattle.table.specs.Call.{viewedIn}
 use Rattle.table_rows.proofs.RowsLaws.{row-same}
 use Rattle.table_rows.proofs.LocatedLaws.{found-at}
 use Rattle.table_port.proofs.PortLaws.{length-sampledTo}

@@ -11,7 +11,8 @@ use Rattle.row_view.specs.View.{viewValue}
 use Rattle.row_calls.specs.Calls.{configOf, setupRow}
 use Rattle.row_view.specs.declared.answer.View.{View}
 use Rattle.table_port.specs.Port.{sampledTable}
-use Rattle.table.specs.Call.{ruled, tableAfter, viewedIn}
+use Rattle.table_change.specs.Making.{ruled, tableAfter}
+use Rattle.table.specs.Call.{viewedIn}
 use Rattle.trace_axis.specs.declared.trace.Trace.{Trace}
 use Rattle.text.specs.declared.report.Report.{Report}
 

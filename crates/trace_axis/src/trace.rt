@@ -5,7 +5,7 @@ ghost use Rattle.trace_axis.specs.Trace.{started, fedWith, reportOf};
 use axis::kind::Kind;
 use row_view::answer::Viewed;
 use table::look::view;
-use table::setup::setup;
+use table_change::setup::setup;
 use table_port::sample;
 use text::report::Report;
 

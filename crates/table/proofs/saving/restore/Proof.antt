@@ -1,6 +1,6 @@
 use mathlib.Core.Path.{sym, _∙_}
 use Rattle.table_rows.proofs.LocatedLaws.{found-fits}
-use Rattle.table.proofs.CallLaws.{not-found, found-makes}
+use Rattle.table_change.proofs.MakingLaws.{not-found, found-makes}
 use borrow.Author.Needs.{needs}
 use Rattle.table.proofs.saving.restore.Statement.{statement}
 use Rattle.table.proofs.saving.restore.Tie as tie

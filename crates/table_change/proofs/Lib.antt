@@ -1,0 +1,4 @@
+pub mod MakingLaws
+pub mod WordLaws
+pub mod OrderLaws
+pub mod OutcomeLaws
