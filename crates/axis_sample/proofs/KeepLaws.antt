@@ -12,14 +12,14 @@ use Rattle.axis_sound.specs.Sound.{SoundPace, SampledAxis}
 use Rattle.axis_filter.specs.Lines.{A, B, Z, levelOf}
 use Rattle.axis_filter.specs.Filter.{Short}
 use Rattle.axis_decode.specs.declared.Move.{Move}
-use Rattle.axis_motion.specs.Pace.{pacedBy}
-use Rattle.axis_motion.specs.Index.{offTurn}
+use Rattle.axis_pace.specs.Pace.{pacedBy}
+use Rattle.axis_index.specs.Index.{offTurn}
 use Rattle.axis_sample.specs.Lines.{placeOf, line, linesOf, filtered, moveTo, rises}
 use Rattle.axis_sample.specs.Step.{primedBy, settle, advanced, outcome, stepAxis}
 use Rattle.axis_filter.specs.declared.Raw.{Raw}
 use Rattle.axis_filter.proofs.FilterLaws.{filter-short}
-use Rattle.axis_motion.proofs.CountLaws.{count-keeps, doubles-below}
-use Rattle.axis_motion.proofs.PaceLaws.{direction-below, age-below, period-below, resting}
+use Rattle.axis_count.proofs.CountLaws.{count-keeps, doubles-below}
+use Rattle.axis_pace.proofs.PaceLaws.{direction-below, age-below, period-below, resting}
 
 -- The runs of a sampled axis are short.
 pub sampled-short : {x : Axis} → SampledAxis x → Short (x .config .depth) (linesOf x)

@@ -13,7 +13,7 @@ use Rattle.axis_sample.specs.After.{Primed, Entered, Moved, Homed}
 use Rattle.axis_filter.specs.declared.Line.{Line}
 use Rattle.axis_filter.specs.declared.Lines.{Lines}
 use Rattle.axis_filter.specs.declared.Raw.{Raw}
-use Rattle.axis_motion.proofs.CountLaws.{counted}
+use Rattle.axis_count.proofs.CountLaws.{counted}
 
 -- Three lines that are read by name are those lines.
 pub lines-are : (x : Axis) (s : Raw) {n : Lines} → n ≡ filterLines (x .config .depth) (linesOf x) s → three n ≡ filtered x s

@@ -6,9 +6,9 @@ use Rattle.position.specs.Position.{positionOf}
 use Rattle.axis.specs.Flags.{withPrimed}
 use Rattle.axis.specs.declared.row.Axis.{Axis}
 use Rattle.axis_filter.specs.Lines.{Wire, levelOf}
-use Rattle.axis_motion.specs.Count.{countedWord, countedRange, countedDoubles}
-use Rattle.axis_motion.specs.Pace.{pacedBy}
-use Rattle.axis_motion.specs.Index.{offTurn}
+use Rattle.axis_count.specs.Count.{countedWord, countedRange, countedDoubles}
+use Rattle.axis_pace.specs.Pace.{pacedBy}
+use Rattle.axis_index.specs.Index.{offTurn}
 use Rattle.axis_sample.specs.Lines.{line, moveTo, rises}
 use Rattle.axis_sample.specs.Step.{settle}
 use Rattle.axis_filter.specs.declared.Line.{Line}

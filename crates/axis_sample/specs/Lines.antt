@@ -10,7 +10,7 @@ use Rattle.axis_filter.specs.declared.Lines.{Lines}
 use Rattle.axis_filter.specs.declared.Raw.{Raw}
 use Rattle.axis_decode.specs.Decode.{code, entry}
 use Rattle.axis_decode.specs.declared.Move.{Move}
-use Rattle.axis_motion.specs.Index.{risesTo}
+use Rattle.axis_index.specs.Index.{risesTo}
 
 -- The line at a place of an axis's levels and runs.
 abbrev pub lineIn : Axis → ℕ → Line

@@ -7,9 +7,9 @@ use Rattle.axis.specs.Flags.{withPrimed}
 use Rattle.axis.specs.declared.row.Axis.{Axis}
 use Rattle.axis_filter.specs.Lines.{Wire, A, B, Z}
 use Rattle.axis_decode.specs.Decode.{isE}
-use Rattle.axis_motion.specs.Count.{countedWord, countedRange, countedDoubles}
-use Rattle.axis_motion.specs.Pace.{pacedBy}
-use Rattle.axis_motion.specs.Index.{offTurn}
+use Rattle.axis_count.specs.Count.{countedWord, countedRange, countedDoubles}
+use Rattle.axis_pace.specs.Pace.{pacedBy}
+use Rattle.axis_index.specs.Index.{offTurn}
 use Rattle.axis_sample.specs.Lines.{filtered, moveTo, rises}
 use Rattle.axis_decode.specs.declared.Move.{Move}
 use Rattle.axis_filter.specs.declared.Line.{Line}

@@ -14,12 +14,12 @@ use axis_filter::Line;
 use axis_filter::Lines;
 use axis_filter::Raw;
 use axis_filter::filter::filter;
-use axis_motion::count::count;
-use axis_motion::count::count_doubles;
-use axis_motion::index::check;
-use axis_motion::index::home;
-use axis_motion::index::z_rises;
-use axis_motion::pace::paced;
+use axis_count::count;
+use axis_count::count_doubles;
+use axis_index::check;
+use axis_index::home;
+use axis_index::z_rises;
+use axis_pace::paced;
 
 // The axis after a sample, and its bits of the answer.
 pub struct Stepped {

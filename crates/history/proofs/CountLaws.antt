@@ -5,9 +5,9 @@ use lib.IntN.{ℤ, _+ℤ_}
 use Rattle.position.specs.Position.{inRange, wordOf, positionOf}
 use Rattle.position.proofs.PositionLaws.{word-holds, position-word, word-position}
 use Rattle.axis_decode.specs.Decode.{worth}
-use Rattle.axis_motion.specs.Count.{countedWord, countedRange}
+use Rattle.axis_count.specs.Count.{countedWord, countedRange}
 use Rattle.axis_decode.specs.declared.Move.{Move}
-use Rattle.axis_motion.proofs.CountLaws.{count-keeps, moves, holds as held}
+use Rattle.axis_count.proofs.CountLaws.{count-keeps, moves, holds as held}
 use Rattle.history.specs.Tally.{holds}
 
 module _ (p : ℤ) (e : inRange p ≡ true) (m : Move) where

@@ -7,7 +7,7 @@ use native.Mathlib.Omega.{arith}
 use borrow.Author.Tests.{le-ltb, ltb-true, ltb-false}
 use lib.Dec.{eqb, ltb}
 use Rattle.axis.specs.declared.row.Pace.{Pace}
-use Rattle.axis_motion.specs.Pace.{older, pacedDirection, pacedAge, stepPeriod, pacedPeriod, pacedBy}
+use Rattle.axis_pace.specs.Pace.{older, pacedDirection, pacedAge, stepPeriod, pacedPeriod, pacedBy}
 use Rattle.axis_decode.specs.declared.Move.{Move}
 use Rattle.axis_decode.specs.declared.Move.the-variants.{Still, Forward, Back, Double}
 use Rattle.history.specs.Pace.{directionOf, gapOf, ageOf, stepSpan, periodOf, paceOf}

@@ -7,7 +7,7 @@ use Rattle.axis.specs.declared.row.Axis.{Axis}
 use Rattle.axis_filter.specs.Lines.{Wire, A, B, Z}
 use Rattle.axis_decode.specs.Decode.{entry, isE}
 use Rattle.axis_sample.specs.Lines.{placeOf, line, filtered, moveTo, rises}
-use Rattle.axis_motion.specs.Count.{countedWord}
+use Rattle.axis_count.specs.Count.{countedWord}
 use Rattle.axis_sample.specs.Step.{settle, outcome}
 use Rattle.axis_decode.specs.declared.Move.{Move}
 use Rattle.axis_filter.specs.declared.Line.{Line}

@@ -8,7 +8,7 @@ use lib.IntN.{ℤ, pos, _+ℤ_, +ℤ-idr, +ℤ-assoc}
 use Rattle.position.specs.Position.{inRange, wordOf, positionOf}
 use Rattle.position.proofs.PositionLaws.{position-word}
 use Rattle.axis_decode.specs.Decode.{worth, isE}
-use Rattle.axis_motion.specs.Count.{countedWord, countedRange, countedDoubles}
+use Rattle.axis_count.specs.Count.{countedWord, countedRange, countedDoubles}
 use Rattle.axis_decode.specs.declared.Move.{Move}
 use Rattle.history.specs.Entries.{numberOfE}
 use Rattle.history.specs.Tally.{Tally, given, onward, Place, clear, sum, holds, walk, heldIn, walked, ranged, doubled}

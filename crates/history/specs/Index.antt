@@ -4,7 +4,7 @@ use mathlib.Core.Bool.{Bool, false, not, _&&_, _||_}
 use mathlib.Core.List.{List, [], _∷_}
 use lib.IntN.{ℤ}
 use Rattle.axis.specs.declared.row.Axis.{Axis}
-use Rattle.axis_motion.specs.Index.{offTurn}
+use Rattle.axis_index.specs.Index.{offTurn}
 use Rattle.axis_filter.specs.declared.Raw.{Raw}
 use Rattle.history.specs.Acts.{Act, sampled, preset, arm, acknowledge}
 use Rattle.history.specs.Levels.{roseAt}

@@ -10,9 +10,9 @@ use Rattle.axis_sound.specs.Sound.{statusOf}
 use Rattle.axis_filter.specs.Lines.{levelOf}
 use Rattle.axis_filter.specs.Filter.{filterLine}
 use Rattle.axis_decode.specs.Decode.{x1, x2, x4, tableOf, entry, isE}
-use Rattle.axis_motion.specs.Count.{countedWord, countedRange, countedDoubles}
-use Rattle.axis_motion.specs.Pace.{older, pacedDirection, pacedAge, stepPeriod, pacedPeriod}
-use Rattle.axis_motion.specs.Index.{offTurn}
+use Rattle.axis_count.specs.Count.{countedWord, countedRange, countedDoubles}
+use Rattle.axis_pace.specs.Pace.{older, pacedDirection, pacedAge, stepPeriod, pacedPeriod}
+use Rattle.axis_index.specs.Index.{offTurn}
 use Rattle.axis_sample.specs.Lines.{placeOf, line, filtered, moveTo, rises}
 use Rattle.axis_sample.specs.Step.{primedBy, settle, outcome, stepAxis}
 use Rattle.row_sample.specs.Sample.{stepBy, stepRow}

@@ -1,3 +1,0 @@
-pub mod CountLaws
-pub mod PaceLaws
-pub mod IndexLaws
