@@ -33,9 +33,9 @@ use Rattle.row_counter.specs.Reading.{readAxis, readingOf, readingRow, storedRo
 use Rattle.row_calls.specs.Calls.{byStatus, leftBy, configOf, changeRow, setupRow, eraseRow, placeRow, presetRow, armRow, acknowledgeRow}
 use Rattle.row_saving.specs.Saving.{restoredBy, restoreRow}
 use Rattle.row_calls.specs.declared.answer.Changed.the-variants.{To, Kept}
-use Rattle.history.specs.Acts.{Act, act, sampled, Allowed}
-use Rattle.history.specs.Acts.{preset as placed, arm as armed, acknowledge as acknowledged}
-use Rattle.history.specs.Told.{toldAxis}
+use Rattle.history_axis.specs.Acts.{Act, act, sampled, Allowed}
+use Rattle.history_axis.specs.Acts.{preset as placed, arm as armed, acknowledge as acknowledged}
+use Rattle.history_axis.specs.Told.{toldAxis}
 use Rattle.row_calls.specs.declared.apply.Change.{Change}
 use Rattle.row_calls.specs.declared.apply.Change.the-variants.{Setup, Erase, Preset, Arm, Acknowledge}
 use Rattle.runs.specs.Op.{Op, changes, restore, reading, looks, ruleOf, rowAfter}
@@ -43,8 +43,8 @@ use Rattle.runs.specs.Event.{Event, bits, asked, rowNext, rowSince}
 use Rattle.history.specs.Phase.{Phase, begun, acted, moved, bySort, readTo, restoredTo}
 use Rattle.history.specs.Phase.{afterChange, afterCall, afterEvent, phaseOf, toldBy, toldRow}
 use Rattle.history.specs.Lawful.{Beginning, given, erased, made, Lawful}
-use Rattle.history.proofs.ToldLaws.{told-first, act-told}
-use Rattle.history.proofs.StartLaws.{start-sound}
+use Rattle.history_axis.proofs.ToldLaws.{told-first, act-told}
+use Rattle.history_axis.proofs.StartLaws.{start-sound}
 use Rattle.history.proofs.PhaseLaws.{counter-preset, start-words, told-holds, axis-sampled, axis-counter}
 
 -- A phase tells a row.

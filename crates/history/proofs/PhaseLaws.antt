@@ -15,10 +15,10 @@ use Rattle.row_counter.specs.Reading.{readAxis}
 use Rattle.row_calls.proofs.ChangeLaws.{sampled-holds, counter-holds}
 use Rattle.row_counter.proofs.ReadingLaws.{read-at, read-kept}
 use Rattle.row_calls.proofs.SetupLaws.{config-holds, erase-makes}
-use Rattle.history.specs.Told.{toldAxis}
+use Rattle.history_axis.specs.Told.{toldAxis}
 use Rattle.history.specs.Phase.{Phase, toldBy, toldRow}
 use Rattle.history.specs.Lawful.{Beginning, given, erased, made, Lawful}
-use Rattle.history.proofs.SampledLaws.{keep-told}
+use Rattle.history_axis.proofs.SampledLaws.{keep-told}
 
 -- A preset of a counter does what a reading does: the flags that it clears are clear.
 pub counter-preset : {x : Axis} → CounterAxis x → (z : ℤ) → presetAxis z x ≡ readAxis z x

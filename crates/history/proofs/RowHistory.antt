@@ -17,11 +17,11 @@ use Rattle.row_counter.specs.Reading.{readAxis}
 use Rattle.runs.specs.Told.{Marks, marks, marksOf}
 use Rattle.runs.specs.Op.{answerOf}
 use Rattle.runs.specs.Event.{Event, bits, asked, rowNext, rowSince, toldOf}
-use Rattle.history.specs.Told.{toldAxis, answered}
+use Rattle.history_axis.specs.Told.{toldAxis, answered}
 use Rattle.history.specs.Phase.{phaseOf, toldRow, markedBy, toldMarks, toldAt}
 use Rattle.history.specs.Lawful.{Lawful}
-use Rattle.history.proofs.ToldLaws.{sample-told}
-use Rattle.history.proofs.StartLaws.{start-sound}
+use Rattle.history_axis.proofs.ToldLaws.{sample-told}
+use Rattle.history_axis.proofs.StartLaws.{start-sound}
 use Rattle.history.proofs.PhaseLaws.{told-holds, axis-sampled, axis-counter}
 use Rattle.history.proofs.EventLaws.{tells}
 

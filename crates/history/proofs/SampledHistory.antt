@@ -14,17 +14,17 @@ use Rattle.axis_sound.specs.declared.Status.the-variants.{Sampled}
 use Rattle.axis_filter.specs.Lines.{Wire, rawOf}
 use Rattle.axis_sample.specs.Lines.{line}
 use Rattle.row_sample.specs.Sample.{stepRow}
-use Rattle.history.specs.Acts.{after, Legal}
-use Rattle.history.specs.Start.{Start}
-use Rattle.history.specs.Levels.{levelAt, roseAt}
-use Rattle.history.specs.Entries.{numberOfE, doubleAt}
-use Rattle.history.specs.Tally.{sum, placeTally, doublesTally}
+use Rattle.history_axis.specs.Acts.{after, Legal}
+use Rattle.history_axis.specs.Start.{Start}
+use Rattle.history_axis.specs.Levels.{levelAt, roseAt}
+use Rattle.history_axis.specs.Entries.{numberOfE, doubleAt}
+use Rattle.history_axis.specs.Tally.{sum, placeTally, doublesTally}
 use Rattle.runs.specs.Told.{Marks}
 use Rattle.runs.specs.Event.{Event, rowSince}
 use Rattle.history.specs.Phase.{phaseOf, startAxis, actsSince, markedBy, toldMarks}
-use Rattle.history.proofs.ToldLaws.{whole-history}
-use Rattle.history.proofs.HistoryLaws.{level-history, position-history, doubles-history}
-use Rattle.history.proofs.StartLaws.{start-sound}
+use Rattle.history_axis.proofs.ToldLaws.{whole-history}
+use Rattle.history_axis.proofs.HistoryLaws.{level-history, position-history, doubles-history}
+use Rattle.history_axis.proofs.StartLaws.{start-sound}
 use Rattle.history.proofs.RowHistory.{phase-lawful, status-history, sampled-history, marks-history}
 
 module _ {r : Row} (words : Words r) (h : List Event) (sampled : statusOf (rowSince r h) ≡ Sampled) where

@@ -9,7 +9,7 @@ use Rattle.axis_sound.specs.Sound.{statusOf}
 use Rattle.axis.specs.declared.config.Config.{Config}
 use Rattle.axis.specs.declared.row.Row.{Row}
 use Rattle.axis_sound.specs.declared.Status.the-variants.{Counter}
-use Rattle.history.specs.Acts.{Legal}
+use Rattle.history_axis.specs.Acts.{Legal}
 use Rattle.history.specs.Phase.{Phase}
 
 -- How a phase begins after a row was given: with that row, with what an erase makes, or with what a setup or a restore does.

@@ -1,14 +1,3 @@
-pub mod Acts
-pub mod Start
-pub mod Latest
-pub mod Levels
-pub mod Entries
-pub mod Homing
-pub mod Tally
-pub mod Pace
-pub mod Index
-pub mod Told
-pub mod Shaft
 pub mod Phase
 pub mod Lasting
 pub mod Lawful

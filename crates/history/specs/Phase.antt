@@ -27,11 +27,11 @@ use Rattle.row_calls.specs.declared.apply.Change.{Change}
 use Rattle.row_calls.specs.declared.apply.Change.the-variants.{Setup, Erase, Preset, Arm, Acknowledge}
 use Rattle.runs.specs.Op.{Op, changes, restore, reading, looks, answerOf}
 use Rattle.runs.specs.Event.{Event, bits, asked}
-use Rattle.history.specs.Acts.{Act, sampled}
-use Rattle.history.specs.Acts.{preset as placed, arm as armed, acknowledge as acknowledged}
-use Rattle.history.specs.Entries.{doubleAt}
-use Rattle.history.specs.Levels.{roseAt}
-use Rattle.history.specs.Told.{toldAxis}
+use Rattle.history_axis.specs.Acts.{Act, sampled}
+use Rattle.history_axis.specs.Acts.{preset as placed, arm as armed, acknowledge as acknowledged}
+use Rattle.history_axis.specs.Entries.{doubleAt}
+use Rattle.history_axis.specs.Levels.{roseAt}
+use Rattle.history_axis.specs.Told.{toldAxis}
 
 -- A phase: the row that it began with, what has happened to a sampled axis since, newest first, and where a counter is.
 pub record Phase : Type 0 where

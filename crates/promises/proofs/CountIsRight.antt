@@ -13,8 +13,8 @@ use Rattle.axis_sound.specs.declared.Status.the-variants.{Sampled, Counter}
 use Rattle.runs.specs.Event.{Event, rowSince}
 use Rattle.runs.specs.Run.{Call, tableRun}
 use Rattle.history.specs.Phase.{phaseOf, toldRow, startAxis, actsSince}
-use Rattle.history.specs.Entries.{numberOfE}
-use Rattle.history.specs.Tally.{Tally, Place, placeTally, doublesTally, sum}
+use Rattle.history_axis.specs.Entries.{numberOfE}
+use Rattle.history_axis.specs.Tally.{Tally, Place, placeTally, doublesTally, sum}
 use Rattle.history.proofs.RowHistory.{row-history}
 use Rattle.history.proofs.SampledHistory.{position-row, doubles-row}
 use Rattle.history.proofs.CounterHistory.{position-counter}

@@ -9,13 +9,13 @@ use Rattle.axis_filter.specs.Lines.{Wire, A, B, Z, levelOf}
 use Rattle.axis_sample.specs.Lines.{placeOf, line, filtered}
 use Rattle.axis_filter.specs.declared.Line.{Line}
 use Rattle.axis_filter.specs.declared.Raw.{Raw}
-use Rattle.history.specs.Acts.{Act, sampled}
-use Rattle.history.specs.Start.{Start}
-use Rattle.history.specs.Latest.{streak, latest}
-use Rattle.history.specs.Levels.{primedAt, since, levelAt, runAt}
-use Rattle.history.specs.Told.{toldAxis}
-use Rattle.history.proofs.LatestLaws.{streak-same, latest-full}
-use Rattle.history.proofs.FilterLaws.{lineOf, line-short, line-start, filter-latest}
+use Rattle.history_axis.specs.Acts.{Act, sampled}
+use Rattle.history_axis.specs.Start.{Start}
+use Rattle.history_axis.specs.Latest.{streak, latest}
+use Rattle.history_axis.specs.Levels.{primedAt, since, levelAt, runAt}
+use Rattle.history_axis.specs.Told.{toldAxis}
+use Rattle.history_axis.proofs.LatestLaws.{streak-same, latest-full}
+use Rattle.history_axis.proofs.FilterLaws.{lineOf, line-short, line-start, filter-latest}
 
 -- A filtered line after a history.
 abbrev pub lineAt : Axis → Wire → List Act → Line

@@ -5,13 +5,13 @@ use Rattle.axis.specs.declared.row.Axis.{Axis}
 use Rattle.axis_filter.specs.Lines.{A, B, Z}
 use Rattle.axis_filter.specs.declared.Raw.{Raw}
 use Rattle.axis_sample.specs.declared.step.Stepped.{Stepped}
-use Rattle.history.specs.Acts.{Act, sampled}
-use Rattle.history.specs.Levels.{primedAt, levelAt, runAt, roseAt}
-use Rattle.history.specs.Entries.{entries, doubleAt}
-use Rattle.history.specs.Homing.{armedAt, homedAt}
-use Rattle.history.specs.Tally.{positionAt, rangeAt, doublesAt}
-use Rattle.history.specs.Pace.{paceOf}
-use Rattle.history.specs.Index.{indexAt}
+use Rattle.history_axis.specs.Acts.{Act, sampled}
+use Rattle.history_axis.specs.Levels.{primedAt, levelAt, runAt, roseAt}
+use Rattle.history_axis.specs.Entries.{entries, doubleAt}
+use Rattle.history_axis.specs.Homing.{armedAt, homedAt}
+use Rattle.history_axis.specs.Tally.{positionAt, rangeAt, doublesAt}
+use Rattle.history_axis.specs.Pace.{paceOf}
+use Rattle.history_axis.specs.Index.{indexAt}
 
 -- The axis after a history h that started from the axis x, by the starting axis and the acts alone; a configuration never changes.
 unfoldable pub toldAxis : Axis → List Act → Axis

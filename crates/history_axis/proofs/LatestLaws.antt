@@ -7,7 +7,7 @@ use native.Mathlib.Omega.{arith}
 use borrow.Author.Tests.{le-leb, lt-leb}
 use lib.Dec.{leb}
 use lib.ListN.{replicate}
-use Rattle.history.specs.Latest.{streak, latest}
+use Rattle.history_axis.specs.Latest.{streak, latest}
 
 pub streak-same : (x : Bool) (h : List Bool) → streak x (x ∷ h) ≡ suc (streak x h)
 unfolding streak

@@ -8,8 +8,8 @@ use Rattle.axis_filter.specs.Lines.{A, B}
 use Rattle.axis_decode.specs.Decode.{code, entry, isE}
 use Rattle.axis_decode.specs.declared.Move.{Move}
 use Rattle.axis_filter.specs.declared.Raw.{Raw}
-use Rattle.history.specs.Acts.{Act, sampled, preset, arm, acknowledge}
-use Rattle.history.specs.Levels.{primedAt, levelAt}
+use Rattle.history_axis.specs.Acts.{Act, sampled, preset, arm, acknowledge}
+use Rattle.history_axis.specs.Levels.{primedAt, levelAt}
 
 -- The code of the filtered levels.
 unfoldable pub codeAt : Axis → List Act → ℕ

@@ -7,9 +7,9 @@ use Rattle.position.specs.Position.{inRange, positionOf}
 use Rattle.axis.specs.declared.row.Axis.{Axis}
 use Rattle.axis_decode.specs.Decode.{worth}
 use Rattle.axis_decode.specs.declared.Move.{Move}
-use Rattle.history.specs.Acts.{Act, sampled, preset, arm, acknowledge}
-use Rattle.history.specs.Entries.{entryAt, numberOfE}
-use Rattle.history.specs.Homing.{homesAt}
+use Rattle.history_axis.specs.Acts.{Act, sampled, preset, arm, acknowledge}
+use Rattle.history_axis.specs.Entries.{entryAt, numberOfE}
+use Rattle.history_axis.specs.Homing.{homesAt}
 
 -- What was given last, and the entries since, newest first.
 pub record Tally (N : Type 0) : Type 0 where

@@ -19,17 +19,17 @@ use Rattle.axis_decode.specs.Decode.{code, x4, tableOf, entry, worth, isE}
 use Rattle.axis_sample.specs.Step.{stepAxis}
 use Rattle.axis_decode.specs.declared.Move.{Move}
 use Rattle.axis_decode.specs.declared.Move.the-variants.{Still, Forward, Back, Double}
-use Rattle.history.specs.Acts.{Act, sampled, after, Legal}
-use Rattle.history.specs.Start.{Start}
-use Rattle.history.specs.Levels.{primedAt}
-use Rattle.history.specs.Entries.{codeAt, entryAt, doubleAt}
-use Rattle.history.specs.Homing.{homesAt}
-use Rattle.history.specs.Tally.{onward, walked, ranged, placeTally, positionAt, rangeAt}
-use Rattle.history.specs.Shaft.{cycle, angleCode, ShaftSample, rawAt, watched, angleAt, turnedBy, AtMostTwo, Undisturbed}
-use Rattle.history.proofs.LevelsLaws.{level-one}
-use Rattle.history.proofs.EntriesLaws.{entry-primed, double-entry}
-use Rattle.history.proofs.TallyLaws.{one-clear}
-use Rattle.history.proofs.HistoryLaws.{position-walk, range-history, double-bit}
+use Rattle.history_axis.specs.Acts.{Act, sampled, after, Legal}
+use Rattle.history_axis.specs.Start.{Start}
+use Rattle.history_axis.specs.Levels.{primedAt}
+use Rattle.history_axis.specs.Entries.{codeAt, entryAt, doubleAt}
+use Rattle.history_axis.specs.Homing.{homesAt}
+use Rattle.history_axis.specs.Tally.{onward, walked, ranged, placeTally, positionAt, rangeAt}
+use Rattle.history_axis.specs.Shaft.{cycle, angleCode, ShaftSample, rawAt, watched, angleAt, turnedBy, AtMostTwo, Undisturbed}
+use Rattle.history_axis.proofs.LevelsLaws.{level-one}
+use Rattle.history_axis.proofs.EntriesLaws.{entry-primed, double-entry}
+use Rattle.history_axis.proofs.TallyLaws.{one-clear}
+use Rattle.history_axis.proofs.HistoryLaws.{position-walk, range-history, double-bit}
 
 -- ---- angles modulo 4
 

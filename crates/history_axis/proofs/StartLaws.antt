@@ -17,13 +17,13 @@ use Rattle.axis_sound.specs.declared.Status.the-variants.{Sampled}
 use Rattle.axis_sound.proofs.SoundLaws.{sampled-gives}
 use Rattle.axis_filter.specs.Lines.{Wire, A, B, Z}
 use Rattle.axis_sample.specs.Lines.{placeOf, line}
-use Rattle.history.specs.Acts.{Act, act, after, Legal}
-use Rattle.history.specs.Start.{Start}
-use Rattle.history.specs.Tally.{positionAt}
-use Rattle.history.specs.Pace.{ageOf}
-use Rattle.history.specs.Told.{toldAxis}
-use Rattle.history.proofs.LevelsLaws.{line-told, run-short}
-use Rattle.history.proofs.ToldLaws.{position-in, whole-history}
+use Rattle.history_axis.specs.Acts.{Act, act, after, Legal}
+use Rattle.history_axis.specs.Start.{Start}
+use Rattle.history_axis.specs.Tally.{positionAt}
+use Rattle.history_axis.specs.Pace.{ageOf}
+use Rattle.history_axis.specs.Told.{toldAxis}
+use Rattle.history_axis.proofs.LevelsLaws.{line-told, run-short}
+use Rattle.history_axis.proofs.ToldLaws.{position-in, whole-history}
 
 -- A sampled axis may start a history.
 pub start-sampled : {x : Axis} → SampledAxis x → Start x

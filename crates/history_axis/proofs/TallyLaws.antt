@@ -10,9 +10,9 @@ use Rattle.position.proofs.PositionLaws.{position-word}
 use Rattle.axis_decode.specs.Decode.{worth, isE}
 use Rattle.axis_count.specs.Count.{countedWord, countedRange, countedDoubles}
 use Rattle.axis_decode.specs.declared.Move.{Move}
-use Rattle.history.specs.Entries.{numberOfE}
-use Rattle.history.specs.Tally.{Tally, given, onward, Place, clear, sum, holds, walk, heldIn, walked, ranged, doubled}
-use Rattle.history.proofs.CountLaws.{stepped-in-range, count-word, count-range}
+use Rattle.history_axis.specs.Entries.{numberOfE}
+use Rattle.history_axis.specs.Tally.{Tally, given, onward, Place, clear, sum, holds, walk, heldIn, walked, ranged, doubled}
+use Rattle.history_axis.proofs.CountLaws.{stepped-in-range, count-word, count-range}
 
 -- ---- one entry more
 

@@ -13,18 +13,18 @@ use Rattle.axis_sample.specs.Step.{stepAxis}
 use Rattle.axis_filter.specs.declared.Line.{Line}
 use Rattle.axis_filter.specs.declared.Raw.{Raw}
 use Rattle.axis_sample.specs.declared.step.Stepped.{Stepped}
-use Rattle.history.specs.Acts.{Act, after, Legal}
-use Rattle.history.specs.Start.{Start}
-use Rattle.history.specs.Levels.{primedAt, levelAt, runAt, roseAt}
-use Rattle.history.specs.Entries.{entries, numberOfE, doubleAt}
-use Rattle.history.specs.Homing.{armedAt, homedAt}
-use Rattle.history.specs.Tally.{sum, walk, heldIn, placeTally, positionAt, doublesTally}
-use Rattle.history.specs.Pace.{directionOf, ageOf, periodOf}
-use Rattle.history.specs.Index.{indexAt}
-use Rattle.history.specs.Told.{toldAxis, answered}
-use Rattle.history.proofs.LevelsLaws.{line-told}
-use Rattle.history.proofs.TallyLaws.{walked-sum}
-use Rattle.history.proofs.ToldLaws.{position-in, whole-history, sample-history}
+use Rattle.history_axis.specs.Acts.{Act, after, Legal}
+use Rattle.history_axis.specs.Start.{Start}
+use Rattle.history_axis.specs.Levels.{primedAt, levelAt, runAt, roseAt}
+use Rattle.history_axis.specs.Entries.{entries, numberOfE, doubleAt}
+use Rattle.history_axis.specs.Homing.{armedAt, homedAt}
+use Rattle.history_axis.specs.Tally.{sum, walk, heldIn, placeTally, positionAt, doublesTally}
+use Rattle.history_axis.specs.Pace.{directionOf, ageOf, periodOf}
+use Rattle.history_axis.specs.Index.{indexAt}
+use Rattle.history_axis.specs.Told.{toldAxis, answered}
+use Rattle.history_axis.proofs.LevelsLaws.{line-told}
+use Rattle.history_axis.proofs.TallyLaws.{walked-sum}
+use Rattle.history_axis.proofs.ToldLaws.{position-in, whole-history, sample-history}
 
 module _ (x : Axis) (start : Start x) (h : List Act) (legal : Legal h) where
   whole : after x h ≡ toldAxis x h

@@ -12,18 +12,18 @@ use Rattle.axis_sample.specs.Step.{settle, outcome}
 use Rattle.axis_decode.specs.declared.Move.{Move}
 use Rattle.axis_filter.specs.declared.Line.{Line}
 use Rattle.axis_filter.specs.declared.Raw.{Raw}
-use Rattle.history.specs.Acts.{Act, sampled}
-use Rattle.history.specs.Start.{Start}
-use Rattle.history.specs.Levels.{primedAt, levelAt, runAt, roseAt}
-use Rattle.history.specs.Entries.{codeAt, entryAt, entries}
-use Rattle.history.specs.Homing.{armedAt, homesAt, homedAt}
-use Rattle.history.specs.Tally.{onward, walked, placeTally, positionAt, doublesTally}
-use Rattle.history.specs.Index.{countedAt, indexAt}
-use Rattle.history.specs.Told.{toldAxis, answered}
-use Rattle.history.proofs.LevelsLaws.{lineAt, filtered-told}
-use Rattle.history.proofs.EntriesLaws.{entry-primed, double-entry}
-use Rattle.history.proofs.TallyLaws.{counted-next, word-next, range-next, doubles-next}
-use Rattle.history.proofs.PaceLaws.{pace-next}
+use Rattle.history_axis.specs.Acts.{Act, sampled}
+use Rattle.history_axis.specs.Start.{Start}
+use Rattle.history_axis.specs.Levels.{primedAt, levelAt, runAt, roseAt}
+use Rattle.history_axis.specs.Entries.{codeAt, entryAt, entries}
+use Rattle.history_axis.specs.Homing.{armedAt, homesAt, homedAt}
+use Rattle.history_axis.specs.Tally.{onward, walked, placeTally, positionAt, doublesTally}
+use Rattle.history_axis.specs.Index.{countedAt, indexAt}
+use Rattle.history_axis.specs.Told.{toldAxis, answered}
+use Rattle.history_axis.proofs.LevelsLaws.{lineAt, filtered-told}
+use Rattle.history_axis.proofs.EntriesLaws.{entry-primed, double-entry}
+use Rattle.history_axis.proofs.TallyLaws.{counted-next, word-next, range-next, doubles-next}
+use Rattle.history_axis.proofs.PaceLaws.{pace-next}
 
 module _
     (x : Axis)

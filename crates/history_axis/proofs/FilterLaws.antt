@@ -9,8 +9,8 @@ use lib.Dec.{eqb}
 use lib.ListN.{replicate}
 use Rattle.axis_filter.specs.declared.Line.{Line}
 use Rattle.axis_filter.specs.Filter.{filterLine}
-use Rattle.history.specs.Latest.{streak, latest}
-use Rattle.history.proofs.LatestLaws.{streak-same, streak-other, streak-replicate, latest-full, latest-same, latest-pass}
+use Rattle.history_axis.specs.Latest.{streak, latest}
+use Rattle.history_axis.proofs.LatestLaws.{streak-same, streak-other, streak-replicate, latest-full, latest-same, latest-pass}
 
 -- The line that the samples h since the level v make, at depth d.
 abbrev pub lineOf : ℕ → Bool → List Bool → Line

@@ -7,16 +7,16 @@ use Rattle.axis.specs.declared.row.Axis.{Axis}
 use Rattle.axis_filter.specs.Lines.{A, B, Z, levelOf}
 use Rattle.axis_sample.specs.Step.{primedBy, outcome}
 use Rattle.axis_filter.specs.declared.Raw.{Raw}
-use Rattle.history.specs.Acts.{Act, sampled}
-use Rattle.history.specs.Levels.{primedAt, roseAt}
-use Rattle.history.specs.Entries.{entries}
-use Rattle.history.specs.Homing.{armedAt, homesAt, homedAt}
-use Rattle.history.specs.Tally.{walked, ranged, placeTally, doubled, doublesTally}
-use Rattle.history.specs.Pace.{paceOf}
-use Rattle.history.specs.Index.{indexAt}
-use Rattle.history.specs.Told.{toldAxis, answered}
-use Rattle.history.proofs.LevelsLaws.{level-prime, run-prime}
-use Rattle.history.proofs.EntriesLaws.{entry-none, double-none}
+use Rattle.history_axis.specs.Acts.{Act, sampled}
+use Rattle.history_axis.specs.Levels.{primedAt, roseAt}
+use Rattle.history_axis.specs.Entries.{entries}
+use Rattle.history_axis.specs.Homing.{armedAt, homesAt, homedAt}
+use Rattle.history_axis.specs.Tally.{walked, ranged, placeTally, doubled, doublesTally}
+use Rattle.history_axis.specs.Pace.{paceOf}
+use Rattle.history_axis.specs.Index.{indexAt}
+use Rattle.history_axis.specs.Told.{toldAxis, answered}
+use Rattle.history_axis.proofs.LevelsLaws.{level-prime, run-prime}
+use Rattle.history_axis.proofs.EntriesLaws.{entry-none, double-none}
 
 module _ (x : Axis) (s : Raw) (h : List Act) (q : primedAt x h ≡ false) where
   no-rise : roseAt x s h ≡ false

@@ -8,7 +8,7 @@ use Rattle.axis_decode.specs.Decode.{worth}
 use Rattle.axis_count.specs.Count.{countedWord, countedRange}
 use Rattle.axis_decode.specs.declared.Move.{Move}
 use Rattle.axis_count.proofs.CountLaws.{count-keeps, moves, holds as held}
-use Rattle.history.specs.Tally.{holds}
+use Rattle.history_axis.specs.Tally.{holds}
 
 module _ (p : ℤ) (e : inRange p ≡ true) (m : Move) where
   -- The position after an entry is in the range.

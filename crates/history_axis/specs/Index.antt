@@ -6,11 +6,11 @@ use lib.IntN.{ℤ}
 use Rattle.axis.specs.declared.row.Axis.{Axis}
 use Rattle.axis_index.specs.Index.{offTurn}
 use Rattle.axis_filter.specs.declared.Raw.{Raw}
-use Rattle.history.specs.Acts.{Act, sampled, preset, arm, acknowledge}
-use Rattle.history.specs.Levels.{roseAt}
-use Rattle.history.specs.Entries.{entryAt}
-use Rattle.history.specs.Homing.{armedAt, homedAt}
-use Rattle.history.specs.Tally.{onward, walked, placeTally}
+use Rattle.history_axis.specs.Acts.{Act, sampled, preset, arm, acknowledge}
+use Rattle.history_axis.specs.Levels.{roseAt}
+use Rattle.history_axis.specs.Entries.{entryAt}
+use Rattle.history_axis.specs.Homing.{armedAt, homedAt}
+use Rattle.history_axis.specs.Tally.{onward, walked, placeTally}
 
 -- The position after the count of the sample s after h.
 unfoldable pub countedAt : Axis → Raw → List Act → ℤ

@@ -7,8 +7,8 @@ use Rattle.axis.specs.declared.row.Axis.{Axis}
 use Rattle.axis_filter.specs.Lines.{Wire, Z, levelOf}
 use Rattle.axis_sample.specs.Lines.{line}
 use Rattle.axis_filter.specs.declared.Raw.{Raw}
-use Rattle.history.specs.Acts.{Act, sampled, preset, arm, acknowledge}
-use Rattle.history.specs.Latest.{streak, latest}
+use Rattle.history_axis.specs.Acts.{Act, sampled, preset, arm, acknowledge}
+use Rattle.history_axis.specs.Latest.{streak, latest}
 
 -- PRIMED: set by the first sample, for good.
 unfoldable pub primedAt : Axis → List Act → Bool

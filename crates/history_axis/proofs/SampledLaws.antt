@@ -5,10 +5,10 @@ use Rattle.axis_sound.specs.Sound.{SampledAxis}
 use Rattle.axis.specs.declared.row.Axis.{Axis}
 use Rattle.axis_sample.proofs.KeepLaws.{keep-step}
 use Rattle.row_calls.proofs.ChangeLaws.{preset-sampled, arm-sampled, acknowledge-sampled}
-use Rattle.history.specs.Acts.{Act, sampled, preset, arm, acknowledge, act, after, Allowed, Legal}
-use Rattle.history.specs.Told.{toldAxis}
-use Rattle.history.proofs.ToldLaws.{whole-history}
-use Rattle.history.proofs.StartLaws.{start-sampled}
+use Rattle.history_axis.specs.Acts.{Act, sampled, preset, arm, acknowledge, act, after, Allowed, Legal}
+use Rattle.history_axis.specs.Told.{toldAxis}
+use Rattle.history_axis.proofs.ToldLaws.{whole-history}
+use Rattle.history_axis.proofs.StartLaws.{start-sampled}
 
 module _ (x : Axis) (s : SampledAxis x) where
   -- After an act.

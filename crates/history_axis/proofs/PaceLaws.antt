@@ -10,7 +10,7 @@ use Rattle.axis.specs.declared.row.Pace.{Pace}
 use Rattle.axis_pace.specs.Pace.{older, pacedDirection, pacedAge, stepPeriod, pacedPeriod, pacedBy}
 use Rattle.axis_decode.specs.declared.Move.{Move}
 use Rattle.axis_decode.specs.declared.Move.the-variants.{Still, Forward, Back, Double}
-use Rattle.history.specs.Pace.{directionOf, gapOf, ageOf, stepSpan, periodOf, paceOf}
+use Rattle.history_axis.specs.Pace.{directionOf, gapOf, ageOf, stepSpan, periodOf, paceOf}
 
 module _ (p : Pace) (ms : List Move) where
   direction-next : (m : Move) → pacedDirection m (directionOf p ms) ≡ directionOf p (m ∷ ms)

@@ -15,20 +15,20 @@ use Rattle.axis_sample.specs.Lines.{placeOf, line}
 use Rattle.axis_sample.specs.Step.{outcome, stepAxis}
 use Rattle.axis_filter.specs.declared.Raw.{Raw}
 use Rattle.axis_sample.specs.declared.step.Stepped.{Stepped}
-use Rattle.history.specs.Acts.{Act, sampled, preset, arm, acknowledge, act, after, Legal}
+use Rattle.history_axis.specs.Acts.{Act, sampled, preset, arm, acknowledge, act, after, Legal}
 use Rattle.row_calls.specs.Change.{changed}
-use Rattle.history.specs.Start.{Start}
-use Rattle.history.specs.Levels.{primedAt, since, levelAt, runAt}
-use Rattle.history.specs.Entries.{entryAt, entries, numberOfE}
-use Rattle.history.specs.Homing.{armedAt, homesAt, homedAt}
-use Rattle.history.specs.Tally.{given, onward, clear, walk, heldIn, placeTally, positionAt, doublesTally}
-use Rattle.history.specs.Pace.{directionOf, gapOf, ageOf, periodOf}
-use Rattle.history.specs.Index.{indexAt}
-use Rattle.history.specs.Told.{toldAxis, answered}
-use Rattle.history.proofs.LevelsLaws.{line-first}
-use Rattle.history.proofs.TallyLaws.{walk-in-range}
-use Rattle.history.proofs.PrimeLaws.{primes}
-use Rattle.history.proofs.SettleLaws.{settles}
+use Rattle.history_axis.specs.Start.{Start}
+use Rattle.history_axis.specs.Levels.{primedAt, since, levelAt, runAt}
+use Rattle.history_axis.specs.Entries.{entryAt, entries, numberOfE}
+use Rattle.history_axis.specs.Homing.{armedAt, homesAt, homedAt}
+use Rattle.history_axis.specs.Tally.{given, onward, clear, walk, heldIn, placeTally, positionAt, doublesTally}
+use Rattle.history_axis.specs.Pace.{directionOf, gapOf, ageOf, periodOf}
+use Rattle.history_axis.specs.Index.{indexAt}
+use Rattle.history_axis.specs.Told.{toldAxis, answered}
+use Rattle.history_axis.proofs.LevelsLaws.{line-first}
+use Rattle.history_axis.proofs.TallyLaws.{walk-in-range}
+use Rattle.history_axis.proofs.PrimeLaws.{primes}
+use Rattle.history_axis.proofs.SettleLaws.{settles}
 
 module _ (x : Axis) (start : Start x) where
   -- ---- before any act

@@ -3,8 +3,8 @@ use mathlib.Core.Bool.{Bool, true, false, not, _&&_, _||_}
 use mathlib.Core.List.{List, [], _∷_}
 use Rattle.axis.specs.declared.row.Axis.{Axis}
 use Rattle.axis_filter.specs.declared.Raw.{Raw}
-use Rattle.history.specs.Acts.{Act, sampled, preset, arm, acknowledge}
-use Rattle.history.specs.Levels.{roseAt}
+use Rattle.history_axis.specs.Acts.{Act, sampled, preset, arm, acknowledge}
+use Rattle.history_axis.specs.Levels.{roseAt}
 
 -- ARMED: from an arm to the next index rise.
 unfoldable pub armedAt : Axis → List Act → Bool

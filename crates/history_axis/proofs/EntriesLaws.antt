@@ -10,9 +10,9 @@ use Rattle.axis_decode.specs.Decode.{entry, isE}
 use Rattle.axis_decode.specs.declared.Move.{Move}
 use Rattle.axis_decode.specs.declared.Move.the-variants.{Still, Forward, Back, Double}
 use Rattle.axis_filter.specs.declared.Raw.{Raw}
-use Rattle.history.specs.Acts.{Act, sampled}
-use Rattle.history.specs.Levels.{primedAt}
-use Rattle.history.specs.Entries.{codeAt, entryAt, numberOfE, doubleAt}
+use Rattle.history_axis.specs.Acts.{Act, sampled}
+use Rattle.history_axis.specs.Levels.{primedAt}
+use Rattle.history_axis.specs.Entries.{codeAt, entryAt, numberOfE, doubleAt}
 
 is-double : (m : Move) → isE m ≡ true → m ≡ Double
 unfolding isE

@@ -9,9 +9,9 @@ use Rattle.integers.specs.Integer.{modZ}
 use Rattle.fields.specs.Field.{flagOf}
 use Rattle.axis.specs.declared.row.Axis.{Axis}
 use Rattle.axis_filter.specs.declared.Raw.{Raw}
-use Rattle.history.specs.Acts.{Act, sampled}
-use Rattle.history.specs.Entries.{doubleAt}
-use Rattle.history.specs.Homing.{homesAt}
+use Rattle.history_axis.specs.Acts.{Act, sampled}
+use Rattle.history_axis.specs.Entries.{doubleAt}
+use Rattle.history_axis.specs.Homing.{homesAt}
 
 -- The codes of one cycle forward.
 unfoldable pub cycle : List ℕ

@@ -1,0 +1,14 @@
+pub mod LatestLaws
+pub mod FilterLaws
+pub mod LevelsLaws
+pub mod EntriesLaws
+pub mod CountLaws
+pub mod TallyLaws
+pub mod PaceLaws
+pub mod PrimeLaws
+pub mod SettleLaws
+pub mod ToldLaws
+pub mod HistoryLaws
+pub mod StartLaws
+pub mod ShaftLaws
+pub mod SampledLaws

@@ -1,0 +1,11 @@
+pub mod Acts
+pub mod Start
+pub mod Latest
+pub mod Levels
+pub mod Entries
+pub mod Homing
+pub mod Tally
+pub mod Pace
+pub mod Index
+pub mod Told
+pub mod Shaft
