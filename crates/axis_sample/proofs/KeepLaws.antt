@@ -14,8 +14,9 @@ use Rattle.axis_filter.specs.Filter.{Short}
 use Rattle.axis_decode.specs.declared.Move.{Move}
 use Rattle.axis_pace.specs.Pace.{pacedBy}
 use Rattle.axis_index.specs.Index.{offTurn}
-use Rattle.axis_sample.specs.Lines.{placeOf, line, linesOf, filtered, moveTo, rises}
-use Rattle.axis_sample.specs.Step.{primedBy, settle, advanced, outcome, stepAxis}
+use Rattle.axis_settle.specs.Lines.{placeOf, line, linesOf, filtered, moveTo, rises}
+use Rattle.axis_sample.specs.Step.{primedBy, advanced, outcome, stepAxis}
+use Rattle.axis_settle.specs.Settle.{settle}
 use Rattle.axis_filter.specs.declared.Raw.{Raw}
 use Rattle.axis_filter.proofs.FilterLaws.{filter-short}
 use Rattle.axis_count.proofs.CountLaws.{count-keeps, doubles-below}

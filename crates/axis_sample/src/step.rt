@@ -1,25 +1,19 @@
 // A sample on an axis.
 ghost use mathlib.Core.Path.{_≡_};
 ghost use mathlib.Core.Bool.{true, false};
-ghost use Rattle.axis_filter.specs.Lines.{three};
 ghost use Rattle.axis_filter.specs.Filter.{Short};
-ghost use Rattle.axis_sample.specs.Lines.{linesOf, moveTo, rises};
-ghost use Rattle.axis_sample.specs.Step.{settle, outcome, stepAxis};
+ghost use Rattle.axis_settle.specs.Lines.{linesOf};
+ghost use Rattle.axis_sample.specs.Step.{outcome, stepAxis};
 use axis::row::Axis;
 use axis::row::Flags;
-use axis_decode::Move;
 use axis_decode::is_double;
 use axis_decode::move_between;
 use axis_filter::Line;
 use axis_filter::Lines;
 use axis_filter::Raw;
 use axis_filter::filter::filter;
-use axis_count::count;
-use axis_count::count_doubles;
-use axis_index::check;
-use axis_index::home;
 use axis_index::z_rises;
-use axis_pace::paced;
+use axis_settle::settled;
 
 // The axis after a sample, and its bits of the answer.
 pub struct Stepped {
@@ -49,35 +43,6 @@ fn prime(x: Axis, s: Raw) -> Stepped
         axis,
         double: false,
         index: false,
-    }
-}
-
-// A primed axis whose lines become n, where m is the entry and rose says whether Z rose.
-fn settled(x: Axis, n: Lines, m: Move, rose: bool) -> Axis
-    requires { ⌜ (m ≡ moveTo x (three n)) × (rose ≡ rises x (three n)) ⌝ }
-    ensures { λ r. ⌜ r ≡ settle x (three n) ⌝ }
-{
-    let config = x.config;
-    let was = x.flags;
-    let counted = count(m, x.word, was.range);
-    let homes = was.armed & rose;
-    let checks = rose & !was.armed & was.homed;
-    let flags = Flags {
-        primed: true,
-        armed: was.armed & !rose,
-        homed: was.homed | homes,
-        range: counted.range & !homes,
-        index: check(was.index, checks, config.turn, counted.word),
-    };
-    let pace = paced(m, x.pace);
-    Axis {
-        word: home(homes, counted.word),
-        config,
-        flags,
-        levels: [n.a.level, n.b.level, n.z.level],
-        runs: [n.a.run, n.b.run, n.z.run],
-        doubles: count_doubles(m, x.doubles),
-        pace,
     }
 }
 

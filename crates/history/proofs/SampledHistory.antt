@@ -12,7 +12,7 @@ use Rattle.axis.specs.declared.row.Axis.{Axis}
 use Rattle.axis.specs.declared.row.Row.{Row}
 use Rattle.axis_sound.specs.declared.Status.the-variants.{Sampled}
 use Rattle.axis_filter.specs.Lines.{Wire, rawOf}
-use Rattle.axis_sample.specs.Lines.{line}
+use Rattle.axis_settle.specs.Lines.{line}
 use Rattle.row_sample.specs.Sample.{stepRow}
 use Rattle.history_axis.specs.Acts.{after, Legal}
 use Rattle.history_axis.specs.Start.{Start}

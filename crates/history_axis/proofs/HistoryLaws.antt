@@ -8,7 +8,7 @@ use Rattle.position.specs.Position.{positionOf}
 use Rattle.position.proofs.PositionLaws.{position-word}
 use Rattle.axis.specs.declared.row.Axis.{Axis}
 use Rattle.axis_filter.specs.Lines.{Wire}
-use Rattle.axis_sample.specs.Lines.{line}
+use Rattle.axis_settle.specs.Lines.{line}
 use Rattle.axis_sample.specs.Step.{stepAxis}
 use Rattle.axis_filter.specs.declared.Line.{Line}
 use Rattle.axis_filter.specs.declared.Raw.{Raw}

@@ -6,9 +6,10 @@ use Rattle.position.specs.Position.{inRange, wordOf, positionOf}
 use Rattle.axis.specs.declared.row.Axis.{Axis}
 use Rattle.axis_filter.specs.Lines.{Wire, A, B, Z}
 use Rattle.axis_decode.specs.Decode.{entry, isE}
-use Rattle.axis_sample.specs.Lines.{placeOf, line, filtered, moveTo, rises}
+use Rattle.axis_settle.specs.Lines.{placeOf, line, filtered, moveTo, rises}
 use Rattle.axis_count.specs.Count.{countedWord}
-use Rattle.axis_sample.specs.Step.{settle, outcome}
+use Rattle.axis_sample.specs.Step.{outcome}
+use Rattle.axis_settle.specs.Settle.{settle}
 use Rattle.axis_decode.specs.declared.Move.{Move}
 use Rattle.axis_filter.specs.declared.Line.{Line}
 use Rattle.axis_filter.specs.declared.Raw.{Raw}

@@ -16,7 +16,7 @@ use Rattle.axis.specs.declared.row.Row.{Row}
 use Rattle.axis_sound.specs.declared.Status.the-variants.{Sampled}
 use Rattle.axis_sound.proofs.SoundLaws.{sampled-gives}
 use Rattle.axis_filter.specs.Lines.{Wire, A, B, Z}
-use Rattle.axis_sample.specs.Lines.{placeOf, line}
+use Rattle.axis_settle.specs.Lines.{placeOf, line}
 use Rattle.history_axis.specs.Acts.{Act, act, after, Legal}
 use Rattle.history_axis.specs.Start.{Start}
 use Rattle.history_axis.specs.Tally.{positionAt}

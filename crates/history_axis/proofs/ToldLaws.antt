@@ -11,7 +11,7 @@ use Rattle.axis.specs.Flags.{withRange}
 use Rattle.axis.specs.declared.row.Axis.{Axis}
 use Rattle.axis.proofs.RowLaws.{three-of}
 use Rattle.axis_filter.specs.Lines.{A, B, Z}
-use Rattle.axis_sample.specs.Lines.{placeOf, line}
+use Rattle.axis_settle.specs.Lines.{placeOf, line}
 use Rattle.axis_sample.specs.Step.{outcome, stepAxis}
 use Rattle.axis_filter.specs.declared.Raw.{Raw}
 use Rattle.axis_sample.specs.declared.step.Stepped.{Stepped}

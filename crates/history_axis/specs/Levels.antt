@@ -5,7 +5,7 @@ use mathlib.Core.List.{List, [], _∷_}
 use lib.ListN.{replicate}
 use Rattle.axis.specs.declared.row.Axis.{Axis}
 use Rattle.axis_filter.specs.Lines.{Wire, Z, levelOf}
-use Rattle.axis_sample.specs.Lines.{line}
+use Rattle.axis_settle.specs.Lines.{line}
 use Rattle.axis_filter.specs.declared.Raw.{Raw}
 use Rattle.history_axis.specs.Acts.{Act, sampled, preset, arm, acknowledge}
 use Rattle.history_axis.specs.Latest.{streak, latest}

@@ -5,7 +5,7 @@ use lib.ListN.{length}
 use Rattle.position.specs.Position.{Word}
 use Rattle.axis.specs.declared.row.Axis.{Axis}
 use Rattle.axis_filter.specs.Lines.{Wire}
-use Rattle.axis_sample.specs.Lines.{line}
+use Rattle.axis_settle.specs.Lines.{line}
 
 -- What a history asks of its starting axis, which is no more than a sound sampled row gives.
 pub record Start (x : Axis) : Type 0 where

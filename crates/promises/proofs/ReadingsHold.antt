@@ -13,8 +13,9 @@ use Rattle.axis_decode.specs.Decode.{x1, x2, x4, tableOf, entry, isE}
 use Rattle.axis_count.specs.Count.{countedWord, countedRange, countedDoubles}
 use Rattle.axis_pace.specs.Pace.{older, pacedDirection, pacedAge, stepPeriod, pacedPeriod}
 use Rattle.axis_index.specs.Index.{offTurn}
-use Rattle.axis_sample.specs.Lines.{placeOf, line, filtered, moveTo, rises}
-use Rattle.axis_sample.specs.Step.{primedBy, settle, outcome, stepAxis}
+use Rattle.axis_settle.specs.Lines.{placeOf, line, filtered, moveTo, rises}
+use Rattle.axis_sample.specs.Step.{primedBy, outcome, stepAxis}
+use Rattle.axis_settle.specs.Settle.{settle}
 use Rattle.row_sample.specs.Sample.{stepBy, stepRow}
 use Rattle.promises.specs.Readings.{setUp, sampledBy, counted, levelled, Reading, _shows_, readings}
 

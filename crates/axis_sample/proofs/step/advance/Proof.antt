@@ -1,5 +1,5 @@
 use Rattle.axis_filter.specs.Lines.{three}
-use Rattle.axis_sample.specs.Lines.{placeOf, line, moveTo, rises}
+use Rattle.axis_settle.specs.Lines.{placeOf, line, moveTo, rises}
 use Rattle.axis_sample.specs.Step.{outcome}
 use Rattle.axis_sample.proofs.StepLaws.{lines-are}
 use borrow.Author.Needs.{needs}

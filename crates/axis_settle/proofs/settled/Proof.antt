@@ -1,7 +1,7 @@
-use Rattle.axis_sample.specs.Step.{settle}
+use Rattle.axis_settle.specs.Settle.{settle}
 use Rattle.axis_filter.specs.Lines.{three}
-use Rattle.axis_sample.proofs.step.settled.Statement.{statement}
-use Rattle.axis_sample.proofs.step.settled.Tie as tie
+use Rattle.axis_settle.proofs.settled.Statement.{statement}
+use Rattle.axis_settle.proofs.settled.Tie as tie
 
 returns : tie.Need-returns
 unfolding settle three

@@ -1,0 +1,36 @@
+-- What a sample leaves of a primed axis, part by part: document 01, "A port sample".
+use mathlib.Core.Path.{_≡_}
+use mathlib.Core.Bool.{true, false, _&&_, _||_}
+use lib.IntN.{pos}
+use Rattle.position.specs.Position.{positionOf}
+use Rattle.axis.specs.declared.row.Axis.{Axis}
+use Rattle.axis_filter.specs.Lines.{Wire}
+use Rattle.axis_count.specs.Count.{countedWord, countedRange, countedDoubles}
+use Rattle.axis_pace.specs.Pace.{pacedBy}
+use Rattle.axis_index.specs.Index.{offTurn}
+use Rattle.axis_settle.specs.Lines.{moveTo, rises}
+use Rattle.axis_settle.specs.Settle.{settle}
+use Rattle.axis_filter.specs.declared.Line.{Line}
+
+-- Where the lines of a primed axis become n, doubles, direction, age and period go by the entry alone.
+pub record Entered (x : Axis) (n : Wire → Line) : Type 0 where
+  pub doubles : settle x n .doubles ≡ countedDoubles (moveTo x n) (x .doubles)
+  pub pace : settle x n .pace ≡ pacedBy (moveTo x n) (x .pace)
+
+-- Where that does not home, the entry is counted, and the check is of the position after the count.
+pub record Moved (x : Axis) (n : Wire → Line) : Type 0 where
+  pub word : settle x n .word ≡ countedWord (moveTo x n) (x .word)
+  pub range : settle x n .flags .range ≡ countedRange (moveTo x n) (x .word) (x .flags .range)
+  pub armed : settle x n .flags .armed ≡ x .flags .armed
+  pub homed : settle x n .flags .homed ≡ x .flags .homed
+  pub index :
+      settle x n .flags .index ≡ (x .flags .index
+      || (rises x n && x .flags .homed && offTurn (x .config .turn) (positionOf (settle x n .word))))
+
+-- Where it homes, the position is 0, HOMED is set, ARMED and RANGE are clear, and nothing is checked.
+pub record Homed (x : Axis) (n : Wire → Line) : Type 0 where
+  pub position : positionOf (settle x n .word) ≡ pos 0
+  pub range : settle x n .flags .range ≡ false
+  pub armed : settle x n .flags .armed ≡ false
+  pub homed : settle x n .flags .homed ≡ true
+  pub index : settle x n .flags .index ≡ x .flags .index
