@@ -12,18 +12,17 @@ use Rattle.fields.proofs.BitLaws.{part-zero, part-clear}
 use Rattle.axis.specs.declared.config.Config.{Config}
 use Rattle.axis.specs.declared.row.Axis.{Axis}
 use Rattle.axis.specs.declared.row.Row.{Row}
-use Rattle.axis_sound.specs.declared.Opened.{Opened}
 use Rattle.axis_sound.specs.declared.Status.{Status}
 use Rattle.axis_sound.specs.declared.Status.the-variants.{Empty, Sampled, Counter, Broken}
 use Rattle.axis.specs.Kind.{X1, X2, X4, COUNTER, sampledKind}
 use Rattle.axis.specs.Config.{sampledConfig, counterConfig, goodConfig, SampledSetting, CounterSetting}
-use Rattle.axis.specs.Row.{configIn, axisOf, rowOf, word1Of, word2Of, emptyRow, waiting, freshAt, blank, ConfigFits, Narrow, Held, Words}
-use Rattle.axis_sound.specs.Sound.{isEmpty, isPlain, isConsistent, isSampled, isCounter, statusOf, lowRow, brokenBy, passes}
+use Rattle.axis.specs.Row.{configIn, axisOf, rowOf, word1Of, word2Of, emptyRow, waiting, freshAt, blank, ConfigFits, Held, Words}
+use Rattle.axis_sound.specs.Sound.{isEmpty, isPlain, isConsistent, isSampled, isCounter, statusOf, passes}
 use Rattle.axis_sound.specs.Sound.{SampledAxis, counterOf, CounterAxis}
 use Rattle.axis.proofs.RowLaws.{same-config, row-held, waiting-held, row-again, back, comes-back}
 use Rattle.axis.proofs.TestLaws.{both, refuted}
 use Rattle.axis.proofs.ConfigLaws.{sampled-setting, sampled-passes, counter-setting}
-use Rattle.axis_sound.proofs.PassLaws.{Plain, plain, plain-from, low-same, bare-waits, sampled-axis, sampled-consistent}
+use Rattle.axis_sound.proofs.PassLaws.{Plain, plain, plain-from, bare-waits, sampled-axis, sampled-consistent}
 
 -- The parts of the test of a sampled row.
 sampled-parts : (r : Row) → isSampled r ≡ true → Plain r × SampledSetting (configIn r) × (isConsistent (axisOf r) ≡ true)
@@ -80,16 +79,6 @@ status-of Broken r e =
     let h2 = both _ (not (isCounter r)) e in
     let h1 = both (not (isEmpty r)) _ (h2 .0) in
     rw (not-true (isEmpty r) (h1 .0), not-true (isSampled r) (h1 .1), not-true (isCounter r) (h2 .1))
-
--- A row that is not sampled is broken where it is neither empty nor a counter's.
-pub broken-by : (r : Row) → isSampled r ≡ false → brokenBy (statusOf r) ≡ not (isEmpty r || isCounter r)
-unfolding statusOf
-broken-by r h = rw h (go (isEmpty r) (isCounter r))
-  where
-    go : (e c : Bool) → brokenBy (cond e Empty (cond c Counter Broken)) ≡ not (e || c)
-    go true c = refl
-    go false true = refl
-    go false false = refl
 
 -- An empty row is four zero words.
 pub empty-gives : (r : Row) → statusOf r ≡ Empty → r ≡ emptyRow
@@ -240,30 +229,6 @@ counter-gives r e =
       wide = h .1 .wide;
       rest = waits ∙ (λ i. waiting (same i) (r .w0) (armed i));
     }
-
--- What any row opens to is within its widths.
-pub opened-narrow : (r : Row) (a : Axis) → a ≡ axisOf (lowRow r) → Narrow a
-opened-narrow r a e = subst Narrow (sym e) (row-held (lowRow r) .narrow)
-
--- A row that passes the test of a sampled one is that, and what it unpacks to is its axis.
-pub sampled-opens : (r : Row) (a : Axis) → a ≡ axisOf (lowRow r) → isSampled r ≡ true → (statusOf r ≡ Sampled) × (a ≡ axisOf r)
-unfolding passes
-sampled-opens r a h e = (status-of Sampled r e, h ∙ ap axisOf (low-same r (sampled-parts r e .0 .turn)))
-
--- A row that opens as a sampled one is that, and what it opens to is its axis.
-pub opened-sampled : (r : Row) (o : Opened) → (o .status ≡ statusOf r) × (o .axis ≡ axisOf (lowRow r)) → o .status ≡ Sampled →
-    (statusOf r ≡ Sampled) × (o .axis ≡ axisOf r)
-opened-sampled r o h e =
-    let s = sym (h .0) ∙ e in
-    (s, h .1 ∙ ap axisOf (low-same r (sampled-gives r s .config .turn)))
-
--- So is one that opens as a counter.
-pub opened-counter : (r : Row) (o : Opened) → (o .status ≡ statusOf r) × (o .axis ≡ axisOf (lowRow r)) → o .status ≡ Counter →
-    (statusOf r ≡ Counter) × (o .axis ≡ axisOf r)
-opened-counter r o h e =
-    let s = sym (h .0) ∙ e in
-    let zero : r .w3 ≡ 0 = ap (λ (a : Axis). a .config .turn) (counter-gives r s .rest) in
-    (s, h .1 ∙ ap axisOf (low-same r (omega arith)))
 
 -- HEADLINE: such a counter makes a counter row.
 pub counter-from : {a : Axis} → CounterAxis a → statusOf (rowOf a) ≡ Counter

@@ -73,13 +73,6 @@ statusOf r = cond (isEmpty r) Empty (cond (isSampled r) Sampled (cond (isCounter
 abbrev pub lowRow : Row → Row
 lowRow r = record { w0 = r .w0; w1 = r .w1; w2 = r .w2; w3 = fieldOf 0 32 (r .w3) }
 
--- Whether a status is that of a broken row.
-abbrev pub brokenBy : Status → Bool
-brokenBy Broken = true
-brokenBy Empty = false
-brokenBy Sampled = false
-brokenBy Counter = false
-
 -- The test that a row of each status passes; a broken row passes none of the other three.
 unfoldable pub passes : Status → Row → Bool
 passes Empty r = isEmpty r

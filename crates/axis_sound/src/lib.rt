@@ -1,16 +1,15 @@
 // Which rows are sound.
 ghost use mathlib.Core.Path.{_≡_};
-ghost use mathlib.Core.Bool.{false, not, _&&_, _||_};
+ghost use mathlib.Core.Bool.{not, _&&_, _||_};
 ghost use lib.Dec.{eqb, ltb};
 ghost use Rattle.fields.specs.Field.{fieldOf};
 ghost use Rattle.axis.specs.Config.{sampledConfig};
 ghost use Rattle.axis.specs.Row.{axisOf};
-ghost use Rattle.axis_sound.specs.Sound.{isEmpty, isPlain, isShort, isPaced, isSampled, isCounter, statusOf, lowRow, brokenBy};
+ghost use Rattle.axis_sound.specs.Sound.{isEmpty, isPlain, isShort, isPaced, isSampled, isCounter, lowRow};
 use axis::config;
 use axis::row::Axis;
 use axis::row::Pace;
 use axis::row::Row;
-use axis_packing::unpack;
 
 // The longest period.
 const LONGEST: u32 = 0xffff_fffe;
@@ -23,14 +22,8 @@ pub enum Status {
     Broken,
 }
 
-// A row opened: what it is, and the axis that it holds.
-pub struct Opened {
-    pub status: Status,
-    pub axis: Axis,
-}
-
 // Four zero words.
-fn is_empty(r: Row) -> bool
+pub fn is_empty(r: Row) -> bool
     ensures { λ b. ⌜ b ≡ isEmpty r ⌝ }
 {
     (r.w0 == 0) & (r.w1 == 0) & (r.w2 == 0) & (r.w3 == 0)
@@ -117,7 +110,7 @@ pub fn is_sampled(r: Row, a: Axis) -> bool
 }
 
 // A counter row: past its configuration nothing is set.
-fn is_counter(r: Row) -> bool
+pub fn is_counter(r: Row) -> bool
     ensures { λ b. ⌜ b ≡ isCounter r ⌝ }
 {
     let w2 = r.w2;
@@ -128,59 +121,4 @@ fn is_counter(r: Row) -> bool
     let counter = config::is_counter(kind, depth, width, r.w3);
     let rest = fields::field(r.w1, 14, 50);
     plain & counter & (rest == 0) & (w2 == 0)
-}
-
-// What a row is, by the first test that it passes; a is what it unpacks to.
-fn classify(r: Row, a: Axis) -> Status
-    requires { ⌜ a ≡ axisOf (lowRow r) ⌝ }
-    ensures { λ s. ⌜ s ≡ statusOf r ⌝ }
-{
-    if is_empty(r) {
-        return Status::Empty;
-    }
-    if is_sampled(r, a) {
-        return Status::Sampled;
-    }
-    if is_counter(r) {
-        return Status::Counter;
-    }
-    Status::Broken
-}
-
-// Whether a row that is not sampled is broken.
-pub fn is_broken(r: Row) -> bool
-    requires { ⌜ isSampled r ≡ false ⌝ }
-    ensures { λ b. ⌜ b ≡ brokenBy (statusOf r) ⌝ }
-{
-    !(is_empty(r) | is_counter(r))
-}
-
-// A row with the low 32 bits of word 3.
-fn low(r: Row) -> Row
-    ensures { λ q. ⌜ q ≡ lowRow r ⌝ }
-{
-    Row {
-        w0: r.w0,
-        w1: r.w1,
-        w2: r.w2,
-        w3: fields::field(r.w3, 0, 32),
-    }
-}
-
-// What a row unpacks to. A broken row's word 3 is cut to 32 bits.
-pub fn axis_in(r: Row) -> Axis
-    ensures { λ a. ⌜ a ≡ axisOf (lowRow r) ⌝ }
-{
-    unpack::unpack(low(r))
-}
-
-// What a row is, and what it unpacks to.
-pub fn open(r: Row) -> Opened
-    ensures { λ o. ⌜ (o .status ≡ statusOf r) × (o .axis ≡ axisOf (lowRow r)) ⌝ }
-{
-    let axis = axis_in(r);
-    Opened {
-        status: classify(r, axis),
-        axis,
-    }
 }

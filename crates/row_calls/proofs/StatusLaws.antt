@@ -19,8 +19,9 @@ use Rattle.axis.specs.declared.row.Flags.{Flags}
 use Rattle.axis.specs.declared.row.Row.{Row}
 use Rattle.axis_sound.specs.declared.Status.{Status}
 use Rattle.axis_sound.specs.declared.Status.the-variants.{Empty, Sampled, Counter, Broken}
-use Rattle.axis_sound.specs.declared.Opened.{Opened}
-use Rattle.axis_sound.proofs.SoundLaws.{sampled-gives, counter-gives, opened-sampled}
+use Rattle.axis_open.specs.declared.Opened.{Opened}
+use Rattle.axis_sound.proofs.SoundLaws.{sampled-gives, counter-gives}
+use Rattle.axis_open.proofs.OpenLaws.{opened-sampled}
 use Rattle.row_calls.specs.declared.answer.Changed.{Changed}
 use Rattle.row_calls.specs.declared.answer.Changed.the-variants.{To, Kept}
 use Rattle.row_calls.specs.Change.{changed}

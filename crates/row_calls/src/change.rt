@@ -5,9 +5,9 @@ ghost use Rattle.row_calls.specs.Calls.{byStatus, placeAxis, presetRow, 
 use crate::answer::Changed;
 use axis::row::Axis;
 use axis::row::Row;
+use axis_open::open;
 use axis_packing::pack::pack;
 use axis_sound::Status;
-use axis_sound::open;
 use refusal::Refusal;
 
 // An axis put at another position, with HOMED and RANGE cleared.

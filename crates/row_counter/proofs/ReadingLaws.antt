@@ -19,7 +19,7 @@ use Rattle.axis.specs.Row.{axisOf, freshAt}
 use Rattle.axis.specs.declared.row.Axis.{Axis}
 use Rattle.axis.specs.declared.row.Row.{Row}
 use Rattle.axis_sound.specs.Sound.{statusOf, lowRow, CounterAxis, counterOf}
-use Rattle.axis_sound.specs.declared.Opened.{Opened}
+use Rattle.axis_open.specs.declared.Opened.{Opened}
 use Rattle.axis_sound.specs.declared.Status.the-variants.{Sampled, Counter}
 use Rattle.axis_sound.proofs.SoundLaws.{counter-gives}
 use Rattle.row_calls.specs.Change.{changed, Holds}

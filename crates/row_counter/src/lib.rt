@@ -7,10 +7,10 @@ ghost use Rattle.row_counter.specs.Reading.{readAxis, readingOf, reading
 ghost use Rattle.row_calls.specs.Calls.{byStatus};
 use axis::row::Axis;
 use axis::row::Row;
+use axis_open::Opened;
+use axis_open::open;
 use axis_packing::pack::pack;
-use axis_sound::Opened;
 use axis_sound::Status;
-use axis_sound::open;
 use reckon::Reckoned;
 use refusal::Refusal;
 use row_calls::answer::Changed;

@@ -9,7 +9,8 @@ use Rattle.axis.specs.declared.row.Row.{Row}
 use Rattle.axis_sound.specs.declared.Status.{Status}
 use Rattle.axis_sound.specs.declared.Status.the-variants.{Empty, Sampled, Counter, Broken}
 use Rattle.axis.specs.Row.{axisOf, Words}
-use Rattle.axis_sound.specs.Sound.{isSampled, statusOf, brokenBy, passes, SampledAxis}
+use Rattle.axis_sound.specs.Sound.{isSampled, statusOf, passes, SampledAxis}
+use Rattle.axis_open.specs.Open.{brokenBy}
 use Rattle.axis.proofs.RowLaws.{comes-back, held-words}
 use Rattle.axis_sound.proofs.SoundLaws.{status-exactly, sampled-gives, sampled-from, sampled-held}
 use Rattle.axis_filter.specs.Lines.{rawOf}

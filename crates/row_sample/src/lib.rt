@@ -7,10 +7,10 @@ ghost use Rattle.row_sample.specs.Sample.{packed, kept, stepRow};
 use axis::row::Axis;
 use axis::row::Row;
 use axis_filter::raw_of;
+use axis_open::axis_in;
+use axis_open::is_broken;
 use axis_packing::pack::pack;
 use axis_sample::step::step_axis;
-use axis_sound::axis_in;
-use axis_sound::is_broken;
 use axis_sound::is_sampled;
 
 // The row after a sample, and its bits of the answer.

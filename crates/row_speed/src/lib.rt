@@ -4,8 +4,8 @@ ghost use Prim.Native.Nat.{max};
 ghost use Rattle.row_speed.specs.Speed.{signOf, speedOf, speedRow};
 use axis::row::Pace;
 use axis::row::Row;
+use axis_open::open;
 use axis_sound::Status;
-use axis_sound::open;
 use refusal::Refusal;
 use speed::Speed;
 

@@ -6,8 +6,8 @@ use crate::answer::View;
 use crate::answer::Viewed;
 use axis::row::Axis;
 use axis::row::Row;
+use axis_open::open;
 use axis_sound::Status;
-use axis_sound::open;
 use refusal::Refusal;
 
 pub mod answer; // answer.rt: what a view answers

@@ -2,7 +2,7 @@ use mathlib.Core.Path.{sym, ap, _∙_}
 use mathlib.Core.Logic.{inr}
 use Rattle.axis.specs.Row.{rowOf}
 use Rattle.axis.specs.declared.row.Axis.{Axis}
-use Rattle.axis_sound.proofs.SoundLaws.{opened-narrow, opened-counter}
+use Rattle.axis_open.proofs.OpenLaws.{opened-narrow, opened-counter}
 use Rattle.row_calls.specs.declared.answer.Changed.the-variants.{To}
 use Rattle.row_counter.specs.Reading.{readAxis, readRow, storedRow}
 use Rattle.row_calls.proofs.StatusLaws.{live-position, held-position}

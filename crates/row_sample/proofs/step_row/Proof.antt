@@ -1,6 +1,7 @@
 use mathlib.Core.Path.{sym, ap, _∙_}
 use Rattle.axis.specs.declared.row.Axis.{Axis}
-use Rattle.axis_sound.proofs.SoundLaws.{sampled-gives, sampled-opens}
+use Rattle.axis_sound.proofs.SoundLaws.{sampled-gives}
+use Rattle.axis_open.proofs.OpenLaws.{sampled-opens}
 use Rattle.axis_filter.specs.Lines.{rawOf}
 use Rattle.axis_sample.specs.Step.{stepAxis}
 use Rattle.row_sample.specs.Sample.{packed}

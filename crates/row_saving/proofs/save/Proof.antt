@@ -4,7 +4,7 @@ use lib.ListN.{length}
 use Rattle.record.specs.Record.{savedAs, written}
 use Rattle.row_saving.specs.Saving.{savedOf, saveRow, savedIn}
 use Rattle.row_calls.proofs.StatusLaws.{live-position}
-use Rattle.axis_sound.proofs.SoundLaws.{opened-sampled, opened-counter}
+use Rattle.axis_open.proofs.OpenLaws.{opened-sampled, opened-counter}
 use borrow.Author.Needs.{needs}
 use Rattle.row_saving.proofs.save.Statement.{statement}
 use Rattle.row_saving.proofs.save.Tie as tie

@@ -1,7 +1,7 @@
 use mathlib.Core.Path.{sym, ap, _∙_}
 use Rattle.row_speed.specs.Speed.{speedOf, speedRow}
 use Rattle.axis.specs.declared.row.Axis.{Axis}
-use Rattle.axis_sound.proofs.SoundLaws.{opened-sampled}
+use Rattle.axis_open.proofs.OpenLaws.{opened-sampled}
 use borrow.Author.Needs.{needs}
 use Rattle.row_speed.proofs.speed.Statement.{statement}
 use Rattle.row_speed.proofs.speed.Tie as tie

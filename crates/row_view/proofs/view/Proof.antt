@@ -4,7 +4,7 @@ use Rattle.row_view.specs.declared.answer.Viewed.the-variants.{Shows}
 use Rattle.row_view.specs.View.{viewOf}
 use Rattle.row_view.specs.View.{viewRow}
 use Rattle.row_calls.proofs.StatusLaws.{live-position}
-use Rattle.axis_sound.proofs.SoundLaws.{opened-sampled, opened-counter}
+use Rattle.axis_open.proofs.OpenLaws.{opened-sampled, opened-counter}
 use borrow.Author.Needs.{needs}
 use Rattle.row_view.proofs.view.Statement.{statement}
 use Rattle.row_view.proofs.view.Tie as tie

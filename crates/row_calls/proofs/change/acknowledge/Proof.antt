@@ -1,6 +1,6 @@
 use mathlib.Core.Path.{_∙_}
 use lib.Dec.{lit<}
-use Rattle.axis_sound.proofs.SoundLaws.{opened-narrow}
+use Rattle.axis_open.proofs.OpenLaws.{opened-narrow}
 use Rattle.row_calls.specs.Change.{changed, acknowledgeAxis}
 use Rattle.row_calls.specs.Calls.{acknowledgeRow}
 use Rattle.row_calls.proofs.StatusLaws.{packs, sampled-makes}

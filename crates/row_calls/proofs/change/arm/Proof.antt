@@ -1,5 +1,5 @@
 use mathlib.Core.Path.{_∙_}
-use Rattle.axis_sound.proofs.SoundLaws.{opened-narrow}
+use Rattle.axis_open.proofs.OpenLaws.{opened-narrow}
 use Rattle.row_calls.specs.Change.{changed, armAxis}
 use Rattle.row_calls.specs.Calls.{armRow}
 use Rattle.row_calls.proofs.StatusLaws.{packs, sampled-makes}

@@ -2,7 +2,7 @@ use Rattle.integers.proofs.Machine.{back}
 use mathlib.Core.Path.{sym, _∙_}
 use Rattle.row_calls.specs.Calls.{placeRow, presetRow}
 use Rattle.row_calls.proofs.StatusLaws.{placed-there}
-use Rattle.axis_sound.proofs.SoundLaws.{opened-narrow, opened-sampled, opened-counter}
+use Rattle.axis_open.proofs.OpenLaws.{opened-narrow, opened-sampled, opened-counter}
 use borrow.Author.Needs.{needs}
 use Rattle.row_calls.proofs.change.preset.Statement.{statement}
 use Rattle.row_calls.proofs.change.preset.Tie as tie

@@ -1,8 +1,8 @@
 use mathlib.Core.Path.{sym}
 use borrow.Author.Needs.{needs}
-use Rattle.axis_sound.proofs.SoundLaws.{broken-by}
-use Rattle.axis_sound.proofs.is_broken.Statement.{statement}
-use Rattle.axis_sound.proofs.is_broken.Tie as tie
+use Rattle.axis_open.proofs.OpenLaws.{broken-by}
+use Rattle.axis_open.proofs.is_broken.Statement.{statement}
+use Rattle.axis_open.proofs.is_broken.Tie as tie
 
 returns : tie.Need-returns
 returns c =

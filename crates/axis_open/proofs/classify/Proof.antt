@@ -1,8 +1,8 @@
 use mathlib.Core.Path.{sym, _∙_}
 use borrow.Author.Needs.{needs}
 use Rattle.axis_sound.specs.Sound.{statusOf}
-use Rattle.axis_sound.proofs.classify.Statement.{statement}
-use Rattle.axis_sound.proofs.classify.Tie as tie
+use Rattle.axis_open.proofs.classify.Statement.{statement}
+use Rattle.axis_open.proofs.classify.Tie as tie
 
 returns : tie.Need-returns
 unfolding statusOf

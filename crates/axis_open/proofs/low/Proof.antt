@@ -1,6 +1,6 @@
 use borrow.Author.Needs.{needs}
-use Rattle.axis_sound.proofs.low.Statement.{statement}
-use Rattle.axis_sound.proofs.low.Tie as tie
+use Rattle.axis_open.proofs.low.Statement.{statement}
+use Rattle.axis_open.proofs.low.Tie as tie
 
 returns : tie.Need-returns
 returns c = rw (c .field .ensures)

@@ -1,5 +1,5 @@
-use Rattle.axis_sound.proofs.open.Statement.{statement}
-use Rattle.axis_sound.proofs.open.Tie as tie
+use Rattle.axis_open.proofs.open.Statement.{statement}
+use Rattle.axis_open.proofs.open.Tie as tie
 
 returns : tie.Need-returns
 returns c = (c .classify .ensures, c .before .axis-in .ensures)

@@ -2,8 +2,8 @@ use mathlib.Core.Path.{ap, _∙_}
 use Rattle.fields.proofs.BitLaws.{field-below}
 use Rattle.axis.specs.Row.{axisOf}
 use borrow.Author.Needs.{needs}
-use Rattle.axis_sound.proofs.axis_in.Statement.{statement}
-use Rattle.axis_sound.proofs.axis_in.Tie as tie
+use Rattle.axis_open.proofs.axis_in.Statement.{statement}
+use Rattle.axis_open.proofs.axis_in.Tie as tie
 
 unpack-requires : tie.Need-unpack-requires
 unpack-requires c κs = rw (c .low .ensures) (field-below 0 32 (c .before .args .r .w3))

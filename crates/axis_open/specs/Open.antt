@@ -1,0 +1,11 @@
+-- What a row that is opened is marked by.
+use mathlib.Core.Bool.{Bool, true, false}
+use Rattle.axis_sound.specs.declared.Status.{Status}
+use Rattle.axis_sound.specs.declared.Status.the-variants.{Empty, Sampled, Counter, Broken}
+
+-- Whether a status is that of a broken row.
+abbrev pub brokenBy : Status → Bool
+brokenBy Broken = true
+brokenBy Empty = false
+brokenBy Sampled = false
+brokenBy Counter = false
