@@ -10,7 +10,6 @@ use Rattle.axis_settle.specs.Lines.{moveTo, rises}
 use Rattle.axis_settle.specs.Settle.{settle}
 use Rattle.axis_settle.specs.After.{Entered, Moved, Homed}
 use Rattle.axis_filter.specs.declared.Line.{Line}
-use Rattle.axis_filter.specs.declared.Lines.{Lines}
 use Rattle.axis_count.proofs.CountLaws.{counted}
 
 module _ (x : Axis) (n : Wire → Line) where

@@ -1,4 +1,4 @@
--- Each public call of reckon and speed admits one outcome; record: RecordLaws, table: OutcomeLaws and host: OutcomeLaws say so of theirs.
+-- Each public call of reckon and speed admits one outcome; the laws of record, of the table's rooms and of the host's say so of theirs.
 use mathlib.Core.Path.{_≡_}
 use Prim.Native.Nat.{ℕ}
 use lib.IntN.{ℤ}

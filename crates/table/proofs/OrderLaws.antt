@@ -75,12 +75,12 @@ save-late room r =
 
 -- ---- the calls
 
--- HEADLINE: so does restore, whose own reasons are its record's in their own order.
+-- HEADLINE: restore says LENGTH, then AXIS, then its record's reasons in their own order, and never BROKEN or EMPTY.
 pub restore-ordered : (s : List ℕ) {t u : List ℕ} {k : ℕ} {a : Done} → Makes (restoreRow s) t k u a →
     Ordered doneNumber (λ r. doneOf (restoreRow s r)) t k a × ((doneNumber a ≢ numberOf BROKEN) × (doneNumber a ≢ numberOf EMPTY))
 restore-ordered s w = any-ordered _ w (restore-late s)
 
--- HEADLINE: so does a view.
+-- HEADLINE: a view says LENGTH, then AXIS, then its own.
 pub view-ordered : (t : List ℕ) (k : ℕ) → Ordered viewNumber viewRow t k (viewedIn t k)
 view-ordered t k = in-order viewNumber Unseen (λ e. refl) viewRow t k view-late
 
