@@ -29,8 +29,9 @@ use Rattle.row_counter.proofs.CounterLaws.{counter-follows, counter-position}
 use Rattle.row_calls.specs.declared.apply.Change.the-variants.{Setup, Preset, Arm, Acknowledge}
 use Rattle.runs.specs.Op.{Look, changes, restore, reading, looks, ruleOf, rowAfter}
 use Rattle.runs.specs.Event.{Event, bits, asked, rowNext, rowSince}
+use Rattle.runs.proofs.CallLaws.{refused-after}
 use Rattle.history.specs.Phase.{phaseOf, afterEvent, afterChange, afterCall}
-use Rattle.history.specs.Counter.{Aside, CounterReads, none, read, between}
+use Rattle.history.specs.Counter.{Aside, CounterReads, none, read, between, refusing}
 use Rattle.history.proofs.EventLaws.{reading-told, tells}
 use Rattle.history.proofs.RowHistory.{phase-lawful, status-history, counter-history}
 
@@ -96,16 +97,17 @@ module _ (r : Row) (counter : statusOf r ≡ Counter) where
   abbrev start : ℤ
   start = positionOf (axisOf r .word)
 
-  only-readings : {h : List Event} {ps : List ℤ} → CounterReads width h ps → UnderHalf width start ps → rowSince r h ≡ rowRead width r ps
+  only-readings : {h : List Event} {ps : List ℤ} → CounterReads r width h ps → UnderHalf width start ps → rowSince r h ≡ rowRead width r ps
   unfolding rowSince rowRead rowNext rowAfter ruleOf
   only-readings none g = refl
   only-readings (read p d) (polled q ps ok near g) = ap (λ (s : Row). leftBy s (readRow (lowBits width p) s)) (only-readings d g)
   only-readings (between e q d) g =
       let same = only-readings d g in
       q _ (ap statusOf same ∙ counter-follows r counter g .status) ∙ same
+  only-readings (refusing {h} o e q d) g = refused-after (rowSince r h) o e q ∙ only-readings d g
 
   -- HEADLINE: a counter on a shaft that moves less than half a turn between readings is where the shaft is, whatever else happens to its
   -- row between.
-  pub counter-shaft : {h : List Event} {ps : List ℤ} → CounterReads width h ps → UnderHalf width start ps →
+  pub counter-shaft : {h : List Event} {ps : List ℤ} → CounterReads r width h ps → UnderHalf width start ps →
       positionOf (rowSince r h .w0) ≡ newest start ps
   counter-shaft d g = ap (λ (s : Row). positionOf (s .w0)) (only-readings d g) ∙ counter-position r counter g

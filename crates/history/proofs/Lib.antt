@@ -4,3 +4,6 @@ pub mod RowHistory
 pub mod LastingLaws
 pub mod SampledHistory
 pub mod CounterHistory
+pub mod BeginningLaws
+pub mod ShaftHistory
+pub mod SeenHistory

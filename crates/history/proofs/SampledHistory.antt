@@ -1,7 +1,7 @@
 -- Demand 2 for a sampled row: its fields and its bits of the answer after any events, by what its phase began with and what has happened
 -- since.
 use mathlib.Core.Path.{_≡_, sym, _∙_, ap}
-use mathlib.Core.Bool.{false}
+use mathlib.Core.Bool.{false, _&&_}
 use mathlib.Core.List.{List}
 use Prim.Native.Nat.{ℕ, _+_, min}
 use lib.IntN.{_+ℤ_}
@@ -16,12 +16,13 @@ use Rattle.axis_settle.specs.Lines.{line}
 use Rattle.row_sample.specs.Sample.{stepRow}
 use Rattle.history_axis.specs.Acts.{after, Legal}
 use Rattle.history_axis.specs.Start.{Start}
-use Rattle.history_axis.specs.Levels.{levelAt, roseAt}
-use Rattle.history_axis.specs.Entries.{numberOfE, doubleAt}
+use Rattle.history_axis.specs.Levels.{primedAt, levelAt, roseAt}
+use Rattle.history_axis.specs.Entries.{numberOfE, bothChange, doubleAt}
 use Rattle.history_axis.specs.Tally.{sum, placeTally, doublesTally}
 use Rattle.runs.specs.Told.{Marks}
 use Rattle.runs.specs.Event.{Event, rowSince}
 use Rattle.history.specs.Phase.{phaseOf, startAxis, actsSince, markedBy, toldMarks}
+use Rattle.history_axis.proofs.EntriesLaws.{double-lines}
 use Rattle.history_axis.proofs.ToldLaws.{whole-history}
 use Rattle.history_axis.proofs.HistoryLaws.{level-history, position-history, doubles-history}
 use Rattle.history_axis.proofs.StartLaws.{start-sound}
@@ -62,6 +63,12 @@ module _ {r : Row} (words : Words r) (h : List Event) (sampled : statusOf (rowSi
   pub double-bit-row : (n : ℕ) → stepRow (rowSince r h) n .double ≡ doubleAt (startAxis r h) (rawOf n) (actsSince r h)
   unfolding toldMarks markedBy
   double-bit-row n = ap (λ (m : Marks). m .double) (marks-history words h n) ∙ rw first
+
+  -- It is set exactly where the axis is primed and both filtered lines change.
+  pub double-lines-row : (n : ℕ) →
+      stepRow (rowSince r h) n .double
+      ≡ (primedAt (startAxis r h) (actsSince r h) && bothChange (startAxis r h) (rawOf n) (actsSince r h))
+  double-lines-row n = double-bit-row n ∙ double-lines (startAxis r h) (rawOf n) (actsSince r h)
 
   -- HEADLINE: a sample's index bit is set exactly where filtered Z rose.
   pub index-bit-row : (n : ℕ) → stepRow (rowSince r h) n .index ≡ roseAt (startAxis r h) (rawOf n) (actsSince r h)

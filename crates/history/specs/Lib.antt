@@ -2,3 +2,6 @@ pub mod Phase
 pub mod Lasting
 pub mod Lawful
 pub mod Counter
+pub mod Begun
+pub mod Shaft
+pub mod Seen

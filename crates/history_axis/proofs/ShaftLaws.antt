@@ -111,7 +111,8 @@ unfolding angleCode cycle
 code-shown angle = below-four (λ i. code (flagOf 0 (getD cycle i 0)) (flagOf 1 (getD cycle i 0)) ≡ getD cycle i 0) refl refl refl refl
     (modZ angle 4) (modZ-lt angle (omega arith))
 
-legal-watched : (first : ShaftSample) (ts : List ShaftSample) → Legal (watched first ts)
+-- A shaft's samples are accepted.
+pub legal-watched : (first : ShaftSample) (ts : List ShaftSample) → Legal (watched first ts)
 unfolding watched
 legal-watched first [] = (tt, tt)
 legal-watched first (t ∷ ts) = (tt, legal-watched first ts)

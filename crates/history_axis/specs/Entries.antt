@@ -1,6 +1,6 @@
 -- The entries of a history h that started from the axis x: document 01, "A port sample", Decode.
 use Prim.Native.Nat.{ℕ, _+_}
-use mathlib.Core.Bool.{Bool, cond}
+use mathlib.Core.Bool.{Bool, cond, not, _&&_, Bool·beq}
 use mathlib.Core.List.{List, [], _∷_, _++_}
 use lib.Dec.{eqb}
 use Rattle.axis.specs.declared.row.Axis.{Axis}
@@ -31,6 +31,11 @@ entries x (acknowledge ∷ h) = entries x h
 unfoldable pub numberOfE : List Move → ℕ
 numberOfE [] = 0
 numberOfE (m ∷ ms) = numberOfE ms + cond (isE m) 1 0
+
+-- Whether both filtered lines A and B change at the sample s after h.
+unfoldable pub bothChange : Axis → Raw → List Act → Bool
+bothChange x s h =
+    not (Bool·beq (levelAt x A h) (levelAt x A (sampled s ∷ h))) && not (Bool·beq (levelAt x B h) (levelAt x B (sampled s ∷ h)))
 
 -- Whether the entry of the sample s after h is E.
 unfoldable pub doubleAt : Axis → Raw → List Act → Bool

@@ -1,0 +1,54 @@
+-- Where the sums of a sampled row begin: document 01, "A port sample", Count.
+use mathlib.Core.Path.{_≡_, refl, ap, _∙_}
+use mathlib.Core.Bool.{true}
+use mathlib.Core.List.{List, [], _∷_}
+use Prim.Native.Nat.{ℕ}
+use lib.IntN.{ℤ, pos}
+use Rattle.position.specs.Position.{inRange, wordOf}
+use Rattle.position.proofs.PositionLaws.{position-word, word-holds}
+use Rattle.axis.specs.Config.{goodConfig}
+use Rattle.axis.specs.Row.{axisOf, rowOf, freshAt}
+use Rattle.axis.specs.declared.row.Axis.{Axis}
+use Rattle.axis.specs.declared.config.Config.{Config}
+use Rattle.axis.specs.declared.row.Row.{Row}
+use Rattle.record.specs.Record.{readAs}
+use Rattle.record.specs.declared.answer.Read.the-variants.{Accepted}
+use Rattle.record_axis.specs.declared.saved.Saved.{Saved}
+use Rattle.record_axis.proofs.LimitsLaws.{within-parts}
+use Rattle.record.proofs.RecordLaws.{accepted-within}
+use Rattle.row_calls.specs.Calls.{configOf}
+use Rattle.row_calls.specs.declared.apply.Change.the-variants.{Setup}
+use Rattle.row_calls.proofs.SetupLaws.{config-holds}
+use Rattle.history_axis.specs.Tally.{given, clear, placeTally, doublesTally}
+use Rattle.runs.specs.Op.{changes, restore}
+use Rattle.runs.specs.Event.{Event, asked}
+use Rattle.history.specs.Phase.{Phase, begun, phaseOf, afterEvent, afterChange, afterCall}
+use Rattle.history.specs.Begun.{SumsBegin}
+
+-- A phase that begins with a row just set up, at any position.
+module _ (r : Row) (h : List Event) (c : Config) (z : ℤ) (begins : phaseOf r h ≡ begun (rowOf (freshAt c (wordOf z)))) where
+  sums-begin : goodConfig (c .kind) (c .depth) (c .width) (c .turn) ≡ true → inRange z ≡ true → SumsBegin r h z
+  unfolding placeTally doublesTally
+  sums-begin good ok =
+      let axis = config-holds c (wordOf z) good (word-holds z ok) .axis in
+      record {
+        place =
+            ap (λ (p : Phase). placeTally (axisOf (p .start)) (p .acts)) begins
+            ∙ ap (λ (x : Axis). placeTally x []) axis
+            ∙ ap (λ (p : ℤ). given (clear p)) (position-word z ok);
+        doubles = ap (λ (p : Phase). doublesTally (axisOf (p .start)) (p .acts)) begins ∙ ap (λ (x : Axis). doublesTally x []) axis;
+      }
+
+-- After a setup that is accepted the sum begins at 0.
+pub sum-setup : (r : Row) (h : List Event) (kind depth width turn : ℕ) → goodConfig kind depth width turn ≡ true →
+    SumsBegin r (asked (changes (Setup kind depth width turn)) ∷ h) (pos 0)
+unfolding phaseOf afterEvent afterCall afterChange wordOf inRange
+sum-setup r h kind depth width turn good = sums-begin r _ (configOf kind depth width turn) (pos 0) (rw good) good refl
+
+-- After a restore that is accepted it begins at the record's position.
+pub sum-restore : (r : Row) (h : List Event) (bytes : List ℕ) (said : Saved) → readAs bytes ≡ Accepted said →
+    SumsBegin r (asked (restore bytes) ∷ h) (said .position)
+unfolding phaseOf afterEvent afterCall
+sum-restore r h bytes said e =
+    let p = within-parts said (accepted-within bytes said e) in
+    sums-begin r _ (said .config) (said .position) (rw e) (p .0) (p .1)
