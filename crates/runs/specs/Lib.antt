@@ -2,3 +2,4 @@ pub mod Told
 pub mod Op
 pub mod Event
 pub mod Run
+pub mod Refusing

@@ -1,0 +1,57 @@
+-- When a call that names one axis is refused, for all calls at once: document 01, "Reasons for saying no".
+use Prim.Native.Nat.{ℕ, _≤_, _<_}
+use mathlib.Core.Path.{_≡_}
+use mathlib.Core.Logic.{_↔_, _≢_}
+use mathlib.Core.Bool.{Bool, true, false}
+use mathlib.Core.List.{List}
+use lib.ListN.{length}
+use Rattle.refusal.specs.Refusal.{numberOf}
+use Rattle.axis_sound.specs.Sound.{statusOf}
+use Rattle.axis_sound.specs.declared.Status.{Status}
+use Rattle.axis_sound.specs.declared.Status.the-variants.{Empty, Sampled, Counter, Broken}
+use Rattle.row_calls.specs.declared.apply.Change.the-variants.{Setup, Erase, Preset, Arm, Acknowledge}
+use Rattle.table_rows.specs.Table.{axesIn, rowAt}
+use Rattle.runs.specs.Told.{Told, marks, refused, done, shown, number, wrote}
+use Rattle.runs.specs.Op.{Op, view, speed, save, changes, restore, reading, looks, answerOf}
+
+-- The number of the refusal that an axis is told, 0 where there is none.
+unfoldable pub refusalTold : Told → ℕ
+refusalTold (marks m) = 0
+refusalTold (refused e) = numberOf e
+refusalTold done = 0
+refusalTold (shown v) = 0
+refusalTold (number z) = 0
+refusalTold (wrote n bytes) = 0
+
+-- Setup, erase and restore take any row, a broken and an empty one too.
+unfoldable pub takesAny : Op → Bool
+takesAny (changes (Setup kind depth width turn)) = true
+takesAny (changes Erase) = true
+takesAny (changes (Preset p)) = false
+takesAny (changes Arm) = false
+takesAny (changes Acknowledge) = false
+takesAny (restore bytes) = true
+takesAny (reading x) = false
+takesAny (looks l) = false
+
+-- Arm, acknowledge and speed by period are not for counters, and a reading is not for sampled rows.
+unfoldable pub WrongKind : Op → Status → Type 0
+WrongKind (changes (Setup kind depth width turn)) s = ⊥
+WrongKind (changes Erase) s = ⊥
+WrongKind (changes (Preset p)) s = ⊥
+WrongKind (changes Arm) s = s ≡ Counter
+WrongKind (changes Acknowledge) s = s ≡ Counter
+WrongKind (restore bytes) s = ⊥
+WrongKind (reading x) s = s ≡ Sampled
+WrongKind (looks view) s = ⊥
+WrongKind (looks (speed rate)) s = s ≡ Counter
+WrongKind (looks (save buffer)) s = ⊥
+
+-- The reasons 1 to 5 of a call that names axis k of a table, each exactly when, and beyond them what the call answers on the named row.
+pub record RefusesExactly (o : Op) (t : List ℕ) (k : ℕ) (a : Told) : Type 0 where
+  pub slice : (refusalTold a ≡ 1) ↔ (axesIn (length t) ≡ 0)
+  pub axis : (refusalTold a ≡ 2) ↔ ((axesIn (length t) ≢ 0) × (axesIn (length t) ≤ k))
+  pub broken : (refusalTold a ≡ 3) ↔ ((k < axesIn (length t)) × (takesAny o ≡ false) × (statusOf (rowAt t k) ≡ Broken))
+  pub empty : (refusalTold a ≡ 4) ↔ ((k < axesIn (length t)) × (takesAny o ≡ false) × (statusOf (rowAt t k) ≡ Empty))
+  pub kind : (refusalTold a ≡ 5) ↔ ((k < axesIn (length t)) × WrongKind o (statusOf (rowAt t k)))
+  pub own : k < axesIn (length t) → a ≡ answerOf o (rowAt t k)
