@@ -1,8 +1,8 @@
 -- Demand 2 for a sampled row: its fields and its bits of the answer after any events, by what its phase began with and what has happened
 -- since.
 use mathlib.Core.Path.{_≡_, sym, _∙_, ap}
-use mathlib.Core.Bool.{false, _&&_}
-use mathlib.Core.List.{List}
+use mathlib.Core.Bool.{true, false, _&&_}
+use mathlib.Core.List.{List, _∷_}
 use Prim.Native.Nat.{ℕ, _+_, min}
 use lib.IntN.{_+ℤ_}
 use Rattle.position.specs.Position.{positionOf}
@@ -12,25 +12,27 @@ use Rattle.axis.specs.declared.row.Axis.{Axis}
 use Rattle.axis.specs.declared.row.Row.{Row}
 use Rattle.axis_sound.specs.declared.Status.the-variants.{Sampled}
 use Rattle.axis_filter.specs.Lines.{Wire, rawOf}
+use Rattle.axis_decode.specs.Decode.{entry, worth}
 use Rattle.axis_settle.specs.Lines.{line}
 use Rattle.row_sample.specs.Sample.{stepRow}
-use Rattle.history_axis.specs.Acts.{after, Legal}
+use Rattle.history_axis.specs.Acts.{sampled, after, Legal}
 use Rattle.history_axis.specs.Start.{Start}
 use Rattle.history_axis.specs.Levels.{primedAt, levelAt, roseAt}
-use Rattle.history_axis.specs.Entries.{numberOfE, bothChange, doubleAt}
+use Rattle.history_axis.specs.Entries.{codeAt, numberOfE, bothChange, doubleAt}
+use Rattle.history_axis.specs.Homing.{homesAt}
 use Rattle.history_axis.specs.Tally.{sum, placeTally, doublesTally}
 use Rattle.runs.specs.Told.{Marks}
-use Rattle.runs.specs.Event.{Event, rowSince}
-use Rattle.history.specs.Phase.{phaseOf, startAxis, actsSince, markedBy, toldMarks}
+use Rattle.runs.specs.Event.{Event, bits, rowSince}
+use Rattle.history.specs.Phase.{Phase, acted, phaseOf, afterEvent, startAxis, actsSince, markedBy, toldMarks}
 use Rattle.history_axis.proofs.EntriesLaws.{double-lines}
 use Rattle.history_axis.proofs.ToldLaws.{whole-history}
-use Rattle.history_axis.proofs.HistoryLaws.{level-history, position-history, doubles-history}
+use Rattle.history_axis.proofs.HistoryLaws.{level-history, position-history, doubles-history, later-counts}
 use Rattle.history_axis.proofs.StartLaws.{start-sound}
 use Rattle.history.proofs.RowHistory.{phase-lawful, status-history, sampled-history, marks-history}
 
-module _ {r : Row} (words : Words r) (h : List Event) (sampled : statusOf (rowSince r h) ≡ Sampled) where
+module _ {r : Row} (words : Words r) (h : List Event) (live : statusOf (rowSince r h) ≡ Sampled) where
   first : statusOf (phaseOf r h .start) ≡ Sampled
-  first = sym (status-history words h) ∙ sampled
+  first = sym (status-history words h) ∙ live
 
   start : Start (startAxis r h)
   start = start-sound (phaseOf r h .start) first
@@ -74,3 +76,29 @@ module _ {r : Row} (words : Words r) (h : List Event) (sampled : statusOf (rowSi
   pub index-bit-row : (n : ℕ) → stepRow (rowSince r h) n .index ≡ roseAt (startAxis r h) (rawOf n) (actsSince r h)
   unfolding toldMarks markedBy
   index-bit-row n = ap (λ (m : Marks). m .index) (marks-history words h n) ∙ rw first
+
+-- ---- one sample more
+
+module _ {r : Row} (words : Words r) (h : List Event) (live : statusOf (rowSince r h) ≡ Sampled) (n : ℕ) where
+  next-phase : phaseOf r (bits n ∷ h) ≡ acted (phaseOf r h) (sampled (rawOf n))
+  unfolding phaseOf afterEvent
+  next-phase = rw (first words h live)
+
+  next-axis : axisOf (rowSince r (bits n ∷ h)) ≡ after (startAxis r h) (sampled (rawOf n) ∷ actsSince r h)
+  next-axis =
+      axis-row words (bits n ∷ h)
+      (status-history words (bits n ∷ h) ∙ ap (λ (p : Phase). statusOf (p .start)) next-phase ∙ first words h live)
+      ∙ ap (λ (p : Phase). after (axisOf (p .start)) (p .acts)) next-phase
+
+  -- A sample on a primed axis that neither homes nor leaves RANGE set moves the position by what its entry is worth.
+  pub later-sample-row : primedAt (startAxis r h) (actsSince r h) ≡ true →
+      homesAt (startAxis r h) (rawOf n) (actsSince r h) ≡ false → axisOf (rowSince r (bits n ∷ h)) .flags .range ≡ false →
+      positionOf (rowSince r (bits n ∷ h) .w0)
+      ≡ positionOf (rowSince r h .w0) +ℤ worth
+      (entry (startAxis r h .config .kind) (codeAt (startAxis r h) (actsSince r h))
+      (codeAt (startAxis r h) (sampled (rawOf n) ∷ actsSince r h)))
+  later-sample-row primed stays clear =
+      ap (λ (x : Axis). positionOf (x .word)) next-axis
+      ∙ later-counts (startAxis r h) (start words h live) (actsSince r h) (legal words h live) primed (rawOf n) stays
+      (sym (ap (λ (x : Axis). x .flags .range) next-axis) ∙ clear)
+      ∙ rw (ap (λ (x : Axis). positionOf (x .word)) (axis-row words h live))

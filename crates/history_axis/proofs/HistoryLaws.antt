@@ -1,29 +1,31 @@
 -- Demand 2 for one sampled axis: what every field of it is after a history, from any axis that a sound sampled row holds.
 use mathlib.Core.Path.{_≡_, sym, _∙_, ap}
-use mathlib.Core.Bool.{false, _||_}
-use mathlib.Core.List.{List}
+use mathlib.Core.Bool.{true, false, _||_}
+use mathlib.Core.List.{List, [], _∷_}
 use Prim.Native.Nat.{_+_, min}
-use lib.IntN.{_+ℤ_}
+use lib.IntN.{ℤ, _+ℤ_}
 use Rattle.position.specs.Position.{positionOf}
 use Rattle.position.proofs.PositionLaws.{position-word}
 use Rattle.axis.specs.declared.row.Axis.{Axis}
 use Rattle.axis_filter.specs.Lines.{Wire}
+use Rattle.axis_decode.specs.Decode.{entry, worth}
 use Rattle.axis_settle.specs.Lines.{line}
 use Rattle.axis_sample.specs.Step.{stepAxis}
 use Rattle.axis_filter.specs.declared.Line.{Line}
 use Rattle.axis_filter.specs.declared.Raw.{Raw}
 use Rattle.axis_sample.specs.declared.step.Stepped.{Stepped}
-use Rattle.history_axis.specs.Acts.{Act, after, Legal}
+use Rattle.history_axis.specs.Acts.{Act, sampled, after, Legal}
 use Rattle.history_axis.specs.Start.{Start}
 use Rattle.history_axis.specs.Levels.{primedAt, levelAt, runAt, roseAt}
-use Rattle.history_axis.specs.Entries.{entries, numberOfE, doubleAt}
-use Rattle.history_axis.specs.Homing.{armedAt, homedAt}
-use Rattle.history_axis.specs.Tally.{sum, walk, heldIn, placeTally, positionAt, doublesTally}
+use Rattle.history_axis.specs.Entries.{codeAt, entries, numberOfE, doubleAt}
+use Rattle.history_axis.specs.Homing.{armedAt, homesAt, homedAt}
+use Rattle.history_axis.specs.Tally.{onward, sum, walk, heldIn, walked, ranged, placeTally, positionAt, doublesTally}
 use Rattle.history_axis.specs.Pace.{directionOf, ageOf, periodOf}
 use Rattle.history_axis.specs.Index.{indexAt}
 use Rattle.history_axis.specs.Told.{toldAxis, answered}
 use Rattle.history_axis.proofs.LevelsLaws.{line-told}
-use Rattle.history_axis.proofs.TallyLaws.{walked-sum}
+use Rattle.history_axis.proofs.EntriesLaws.{entry-primed}
+use Rattle.history_axis.proofs.TallyLaws.{one-clear, walked-sum}
 use Rattle.history_axis.proofs.ToldLaws.{position-in, whole-history, sample-history}
 
 module _ (x : Axis) (start : Start x) (h : List Act) (legal : Legal h) where
@@ -104,3 +106,17 @@ module _ (x : Axis) (start : Start x) (h : List Act) (legal : Legal h) where
   pub index-bit : (s : Raw) → stepAxis (after x h) s .index ≡ roseAt x s h
   unfolding answered
   index-bit s = ap (λ (o : Stepped). o .index) (sample-history x start s h legal)
+
+-- A sample on a primed axis that neither homes nor leaves RANGE set moves the position by what its entry is worth.
+pub later-counts : (x : Axis) → Start x → (h : List Act) → Legal h → primedAt x h ≡ true → (s : Raw) → homesAt x s h ≡ false →
+    after x (sampled s ∷ h) .flags .range ≡ false →
+    positionOf (after x (sampled s ∷ h) .word)
+    ≡ positionOf (after x h .word) +ℤ worth (entry (x .config .kind) (codeAt x h) (codeAt x (sampled s ∷ h)))
+unfolding placeTally
+later-counts x start h legal primed s stays clear =
+    let m = entry (x .config .kind) (codeAt x h) (codeAt x (sampled s ∷ h)) in
+    let next : placeTally x (sampled s ∷ h) ≡ onward (m ∷ []) (placeTally x h) = rw (stays, entry-primed x s h primed) in
+    position-walk x start (sampled s ∷ h) (tt, legal)
+    ∙ ap walked next
+    ∙ one-clear (placeTally x h) m (ap ranged (sym next) ∙ sym (range-history x start (sampled s ∷ h) (tt, legal)) ∙ clear) .1
+    ∙ ap (λ (p : ℤ). p +ℤ worth m) (sym (position-walk x start h legal))
