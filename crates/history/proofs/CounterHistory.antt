@@ -23,9 +23,9 @@ use Rattle.record_axis.proofs.LimitsLaws.{within-parts}
 use Rattle.record.proofs.RecordLaws.{accepted-within}
 use Rattle.row_calls.specs.Change.{changed}
 use Rattle.row_calls.specs.Calls.{leftBy, armRow, acknowledgeRow}
-use Rattle.row_counter.specs.Reading.{readRow}
+use Rattle.row_counter.specs.Reading.{readingRow, readRow}
 use Rattle.row_counter.specs.Counter.{newest, lowBits, rowRead, UnderHalf, polled}
-use Rattle.row_counter.proofs.CounterLaws.{counter-follows, counter-position}
+use Rattle.row_counter.proofs.CounterLaws.{counter-follows, counter-position, counter-answers}
 use Rattle.row_calls.specs.declared.apply.Change.the-variants.{Setup, Preset, Arm, Acknowledge}
 use Rattle.runs.specs.Op.{Look, changes, restore, reading, looks, ruleOf, rowAfter}
 use Rattle.runs.specs.Event.{Event, bits, asked, rowNext, rowSince}
@@ -111,3 +111,9 @@ module _ (r : Row) (counter : statusOf r ≡ Counter) where
   pub counter-shaft : {h : List Event} {ps : List ℤ} → CounterReads r width h ps → UnderHalf width start ps →
       positionOf (rowSince r h .w0) ≡ newest start ps
   counter-shaft d g = ap (λ (s : Row). positionOf (s .w0)) (only-readings d g) ∙ counter-position r counter g
+
+  -- And a reading there answers the shaft's position.
+  pub counter-shaft-answers : {h : List Event} {p : ℤ} {ps : List ℤ} → CounterReads r width h ps → UnderHalf width start (p ∷ ps) →
+      readingRow (lowBits width p) (rowSince r h) ≡ Number p
+  counter-shaft-answers d (polled p ps ok near g) =
+      ap (λ (s : Row). readingRow (lowBits width p) s) (only-readings d g) ∙ counter-answers r counter (polled p ps ok near g)

@@ -1,26 +1,37 @@
 -- Demand 2 for tables: row k of any run of calls is what the history of axis k tells.
 use mathlib.Core.Path.{_≡_, refl, sym, ap, _∙_}
-use mathlib.Core.Bool.{false}
-use mathlib.Core.List.{List, [], _∷_, reverse, reverseAux}
+use mathlib.Core.Logic.{_≢_}
+use mathlib.Core.Bool.{false, _&&_}
+use mathlib.Core.List.{List, [], _∷_, _++_, reverse, reverseAux}
 use Prim.Native.Nat.{ℕ, _+_, _<_, min}
 use lib.IntN.{_+ℤ_}
 use lib.ListN.{length}
+use Rattle.fields.specs.Field.{flagOf}
 use Rattle.position.specs.Position.{positionOf}
-use Rattle.axis.specs.Row.{axisOf}
+use Rattle.axis.specs.Row.{axisOf, Words}
 use Rattle.axis_sound.specs.Sound.{statusOf}
 use Rattle.axis.specs.declared.row.Row.{Row}
-use Rattle.axis_sound.specs.declared.Status.the-variants.{Sampled, Counter}
-use Rattle.runs.specs.Event.{Event, rowSince}
-use Rattle.runs.specs.Run.{Call, tableRun}
+use Rattle.axis_sound.specs.declared.Status.{Status}
+use Rattle.axis_sound.specs.declared.Status.the-variants.{Empty, Sampled, Counter, Broken}
+use Rattle.axis_filter.specs.Lines.{rawOf}
+use Rattle.row_sample.specs.Sample.{stepRow}
+use Rattle.runs.specs.Event.{Event, bits, rowNext, rowSince}
+use Rattle.runs.specs.Run.{Call, port, tableNext, tableRun}
+use Rattle.runs.proofs.CallLaws.{run-length}
 use Rattle.history.specs.Phase.{phaseOf, toldRow, startAxis, actsSince}
-use Rattle.history_axis.specs.Entries.{numberOfE}
-use Rattle.history_axis.specs.Tally.{Tally, Place, placeTally, doublesTally, sum}
+use Rattle.history_axis.specs.Levels.{primedAt}
+use Rattle.history_axis.specs.Entries.{numberOfE, bothChange}
+use Rattle.history_axis.specs.Tally.{placeTally, doublesTally, sum}
 use Rattle.history.proofs.RowHistory.{row-history}
-use Rattle.history.proofs.SampledHistory.{position-row, doubles-row}
+use Rattle.history.proofs.SampledHistory.{position-row, doubles-row, double-lines-row}
 use Rattle.history.proofs.CounterHistory.{position-counter}
 use Rattle.table_rows.specs.Table.{axesIn, rowAt, AllWords}
 use Rattle.table_rows.proofs.RowsLaws.{row-words}
-use Rattle.promises.specs.Own.{events, rowRun}
+use Rattle.table_port.specs.Port.{nibble, sampledTable, sampledAnswer}
+use Rattle.table_port.specs.declared.Masks.{Masks}
+use Rattle.table_port.specs.declared.Sampled.the-variants.{Seen}
+use Rattle.table_port.proofs.PortLaws.{sample-row, sample-bits, empty-row, counter-row, broken-row}
+use Rattle.promises.specs.Own.{events, own, rowRun}
 use Rattle.promises.proofs.RunLaws.{alone}
 
 -- Events oldest first, and the same newest first, make one row.
@@ -33,42 +44,83 @@ run-since : (r : Row) (es : List Event) → rowRun r es ≡ rowSince r (reverse 
 unfolding rowSince
 run-since r es = onto r es []
 
--- Axis k's own events of a run, newest first.
-abbrev pub own : ℕ → List Call → List Event
-own k cs = reverse (events k cs)
+-- A sample after a run.
+run-on : (t : List ℕ) (cs : List Call) (word : ℕ) → tableRun t (cs ++ (port word ∷ [])) ≡ sampledTable (tableRun t cs) word
+unfolding tableRun tableNext
+run-on t [] word = refl
+run-on t (c ∷ cs) word = run-on (tableNext t c) cs word
 
 module _ (t : List ℕ) (k : ℕ) (words : AllWords t) (h : k < axesIn (length t)) (cs : List Call) where
-  -- the tallies of axis k's phase
-  abbrev tally : Tally Place
-  tally = placeTally (startAxis (rowAt t k) (own k cs)) (actsSince (rowAt t k) (own k cs))
+  -- The words of row k before the run.
+  pub first-words : Words (rowAt t k)
+  first-words = row-words t k words
 
-  abbrev doubles : Tally ℕ
-  doubles = doublesTally (startAxis (rowAt t k) (own k cs)) (actsSince (rowAt t k) (own k cs))
-
-  row-is : rowAt (tableRun t cs) k ≡ rowSince (rowAt t k) (own k cs)
+  -- Row k of a run is row k alone after its own events.
+  pub row-is : rowAt (tableRun t cs) k ≡ rowSince (rowAt t k) (own k cs)
   row-is = alone t k h cs .row ∙ run-since (rowAt t k) (events k cs)
 
-  -- HEADLINE: row k after any run of calls on a table is, in all four words, the one that the history of axis k tells.
-  pub row-told : rowAt (tableRun t cs) k ≡ toldRow (phaseOf (rowAt t k) (own k cs))
-  row-told = row-is ∙ row-history (row-words t k words) (own k cs)
+  -- It has one status.
+  pub status-is : {s : Status} → statusOf (rowAt (tableRun t cs) k) ≡ s → statusOf (rowSince (rowAt t k) (own k cs)) ≡ s
+  status-is e = sym (ap statusOf row-is) ∙ e
 
-  -- HEADLINE: a sampled row's position, while RANGE is clear, is the last setup, preset, restored or homing value plus the sum of the
-  -- mode's entries since.
+  -- Axis k is there after the run.
+  pub still-there : k < axesIn (length (tableRun t cs))
+  still-there = rw (run-length t cs) h
+
+  -- Row k after any run of calls on a table is, in all four words, the one that the history of axis k tells.
+  pub row-told : rowAt (tableRun t cs) k ≡ toldRow (phaseOf (rowAt t k) (own k cs))
+  row-told = row-is ∙ row-history first-words (own k cs)
+
+  -- A sampled row's position, while RANGE is clear, is the last setup, preset, restored or homing value plus the sum of the mode's entries
+  -- since.
   pub position-told : statusOf (rowAt (tableRun t cs) k) ≡ Sampled → axisOf (rowAt (tableRun t cs) k) .flags .range ≡ false →
-      positionOf (rowAt (tableRun t cs) k .w0) ≡ tally .value .position +ℤ sum (tally .moves)
+      positionOf (rowAt (tableRun t cs) k .w0)
+      ≡ placeTally (startAxis (rowAt t k) (own k cs)) (actsSince (rowAt t k) (own k cs)) .value .position +ℤ sum
+      (placeTally (startAxis (rowAt t k) (own k cs)) (actsSince (rowAt t k) (own k cs)) .moves)
   position-told s clear =
       ap (λ (r : Row). positionOf (r .w0)) row-is
-      ∙ position-row (row-words t k words) (own k cs) (sym (ap statusOf row-is) ∙ s)
-      (sym (ap (λ (r : Row). axisOf r .flags .range) row-is) ∙ clear)
+      ∙ position-row first-words (own k cs) (status-is s) (sym (ap (λ (r : Row). axisOf r .flags .range) row-is) ∙ clear)
 
-  -- HEADLINE: its doubles is the smaller of 65,535 and the E entries since setup, restore or acknowledge.
+  -- Its doubles is the smaller of 65,535 and the E entries since setup, restore or acknowledge.
   pub doubles-told : statusOf (rowAt (tableRun t cs) k) ≡ Sampled →
-      axisOf (rowAt (tableRun t cs) k) .doubles ≡ min 65535 (doubles .value + numberOfE (doubles .moves))
-  doubles-told s =
-      ap (λ (r : Row). axisOf r .doubles) row-is ∙ doubles-row (row-words t k words) (own k cs) (sym (ap statusOf row-is) ∙ s)
+      axisOf (rowAt (tableRun t cs) k) .doubles
+      ≡ min 65535
+      (doublesTally (startAxis (rowAt t k) (own k cs)) (actsSince (rowAt t k) (own k cs)) .value
+      + numberOfE (doublesTally (startAxis (rowAt t k) (own k cs)) (actsSince (rowAt t k) (own k cs)) .moves))
+  doubles-told s = ap (λ (r : Row). axisOf r .doubles) row-is ∙ doubles-row first-words (own k cs) (status-is s)
 
-  -- HEADLINE: a counter's position is its last set, preset or restored value, or where its last accepted reading puts it.
+  -- A counter's position is its last set, preset or restored value, or where its last accepted reading puts it.
   pub counter-told : statusOf (rowAt (tableRun t cs) k) ≡ Counter →
       positionOf (rowAt (tableRun t cs) k .w0) ≡ phaseOf (rowAt t k) (own k cs) .place
-  counter-told s =
-      ap (λ (r : Row). positionOf (r .w0)) row-is ∙ position-counter (row-words t k words) (own k cs) (sym (ap statusOf row-is) ∙ s)
+  counter-told s = ap (λ (r : Row). positionOf (r .w0)) row-is ∙ position-counter first-words (own k cs) (status-is s)
+
+  -- Row k after one sample more.
+  pub next-is : (word : ℕ) → rowAt (tableRun t (cs ++ (port word ∷ []))) k ≡ rowSince (rowAt t k) (bits (nibble word k) ∷ own k cs)
+  unfolding rowSince rowNext
+  next-is word =
+      ap (λ (u : List ℕ). rowAt u k) (run-on t cs word)
+      ∙ sample-row (tableRun t cs) word k still-there
+      ∙ ap (λ (r : Row). stepRow r (nibble word k) .row) row-is
+
+  module _ (word : ℕ) (m : Masks) (e : sampledAnswer (tableRun t cs) word ≡ Seen m) where
+    -- The double bit of a sample after the run is that of row k alone.
+    pub double-is : flagOf k (m .doubles) ≡ stepRow (rowSince (rowAt t k) (own k cs)) (nibble word k) .double
+    double-is =
+        sample-bits (tableRun t cs) word k still-there m e .doubles ∙ ap (λ (r : Row). stepRow r (nibble word k) .double) row-is
+
+    -- It stands exactly where, on a primed axis, both filtered lines change.
+    pub double-told : statusOf (rowAt (tableRun t cs) k) ≡ Sampled →
+        flagOf k (m .doubles)
+        ≡ (primedAt (startAxis (rowAt t k) (own k cs)) (actsSince (rowAt t k) (own k cs))
+        && bothChange (startAxis (rowAt t k) (own k cs)) (rawOf (nibble word k)) (actsSince (rowAt t k) (own k cs)))
+    double-told s = double-is ∙ double-lines-row first-words (own k cs) (status-is s) (nibble word k)
+
+    -- A row that is not sampled has none.
+    pub double-none : statusOf (rowAt (tableRun t cs) k) ≢ Sampled → flagOf k (m .doubles) ≡ false
+    double-none other = go (statusOf (rowAt (tableRun t cs) k)) refl
+      where
+        go : (s : Status) → statusOf (rowAt (tableRun t cs) k) ≡ s → flagOf k (m .doubles) ≡ false
+        go Empty q = empty-row (tableRun t cs) word k still-there q .bits m e .doubles
+        go Counter q = counter-row (tableRun t cs) word k still-there q .bits m e .doubles
+        go Broken q = broken-row (tableRun t cs) word k still-there q .bits m e .doubles
+        go Sampled q = absurd (other q)

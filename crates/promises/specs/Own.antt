@@ -1,7 +1,7 @@
 -- What one axis has of a run, from its own row and its own part of each call.
 use Prim.Native.Nat.{ℕ}
 use mathlib.Core.Bool.{cond}
-use mathlib.Core.List.{List, [], _∷_, _++_}
+use mathlib.Core.List.{List, [], _∷_, _++_, reverse}
 use lib.Dec.{eqb}
 use lib.ListN.{length, replicate}
 use Rattle.axis.specs.declared.row.Row.{Row}
@@ -34,6 +34,10 @@ eventOf k (names j o) = cond (eqb j k) (asked (seen o) ∷ []) []
 unfoldable pub events : ℕ → List Call → List Event
 events k [] = []
 events k (c ∷ cs) = eventOf k c ++ events k cs
+
+-- The same, newest first, as a history has them.
+abbrev pub own : ℕ → List Call → List Event
+own k cs = reverse (events k cs)
 
 -- A row after events, oldest first.
 unfoldable pub rowRun : Row → List Event → Row

@@ -29,7 +29,7 @@ use Rattle.table_change.specs.Making.{ruled, tableAfter}
 use Rattle.table_change.proofs.MakingLaws.{makes-spares}
 use Rattle.runs.specs.Told.{refused, toldDone, toldNumber}
 use Rattle.runs.specs.Op.{Look, Op, changes, restore, reading, looks, ruleOf, answerOf, rowAfter, RefusedFor}
-use Rattle.runs.specs.Run.{Call, port, names, tableBy, tableNext, answerIn, heardOf}
+use Rattle.runs.specs.Run.{Call, port, names, tableBy, tableNext, tableRun, answerIn, heardOf}
 
 -- ---- the row
 
@@ -58,6 +58,12 @@ pub next-length : (t : List ℕ) (c : Call) → length (tableNext t c) ≡ lengt
 unfolding tableNext tableBy
 next-length t (port word) = sample-length t word
 next-length t (names k o) = makes-spares (ruleOf o) {t = t} {k = k} (record { answer = refl; table = refl }) .size
+
+-- So is it after a run.
+pub run-length : (t : List ℕ) (cs : List Call) → length (tableRun t cs) ≡ length t
+unfolding tableRun
+run-length t [] = refl
+run-length t (c ∷ cs) = run-length (tableNext t c) cs ∙ next-length t c
 
 -- HEADLINE: a call leaves every row that it does not name.
 pub other-row : (t : List ℕ) (j k : ℕ) (o : Op) → k ≢ j → rowAt (tableBy t j o) k ≡ rowAt t k
