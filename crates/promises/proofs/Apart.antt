@@ -1,10 +1,8 @@
 -- Demand 3: two runs that agree on one axis.
-use mathlib.Core.Path.{_≡_, sym, _∙_}
+use mathlib.Core.Path.{sym, _∙_}
 use mathlib.Core.List.{List}
-use Prim.Native.Nat.{ℕ, _<_}
-use lib.ListN.{length}
-use Rattle.table_rows.specs.Table.{axesIn, rowAt}
-use Rattle.runs.specs.Run.{Call, tableRun, heard, rows}
+use Prim.Native.Nat.{ℕ}
+use Rattle.runs.specs.Run.{Call, rows}
 use Rattle.promises.specs.Agreement.{BeginAlike, EndAlike}
 use Rattle.promises.proofs.RunLaws.{alone}
 

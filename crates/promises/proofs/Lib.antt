@@ -7,3 +7,5 @@ pub mod CountIsRight
 pub mod ToldAlone
 pub mod Restoring
 pub mod LazyPrograms
+pub mod Shafts
+pub mod UserSees
