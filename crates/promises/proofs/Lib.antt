@@ -1,3 +1,4 @@
+pub mod Demands
 pub mod ReadingsHold
 pub mod OneOutcome
 pub mod SaveBytes
@@ -9,3 +10,4 @@ pub mod Restoring
 pub mod LazyPrograms
 pub mod Shafts
 pub mod UserSees
+pub mod Refusing

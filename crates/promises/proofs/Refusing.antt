@@ -1,0 +1,30 @@
+-- Demand 1 for tables: when a port sample and a call are refused, by what they promise.
+use Prim.Native.Nat.{ℕ}
+use mathlib.Core.Path.{_≡_}
+use mathlib.Core.Logic.{_↔_}
+use mathlib.Core.List.{List}
+use lib.ListN.{length}
+use Rattle.refusal.specs.declared.Refusal.{Refusal}
+use Rattle.refusal.specs.declared.Refusal.the-variants.{Length}
+use Rattle.table_rows.specs.Table.{axesIn}
+use Rattle.table_port.specs.Port.{Samples}
+use Rattle.table_port.specs.declared.Sampled.{Sampled}
+use Rattle.table_port.specs.declared.Sampled.the-variants.{Refused}
+use Rattle.table_port.proofs.PortLaws.{sample-refused, refused-keeps}
+use Rattle.runs.specs.Told.{Told, refused}
+use Rattle.runs.specs.Op.{Op}
+use Rattle.runs.specs.Run.{tableNext, Says}
+use Rattle.runs.specs.Refusing.{RefusesExactly}
+use Rattle.runs.proofs.RefusingLaws.{refuses-exactly, refused-table}
+
+-- A port sample.
+pub sample-says : (t u : List ℕ) (word : ℕ) (a : Sampled) → Samples t word u a → (e : Refusal) →
+    ((a ≡ Refused e) ↔ ((axesIn (length t) ≡ 0) × (e ≡ Length))) × (a ≡ Refused e → u ≡ t)
+sample-says t u word a w e =
+    rw (w .answer, w .table) (sample-refused t word e, refused-keeps t word e)
+
+-- A call that names an axis.
+pub call-says : (o : Op) (t u : List ℕ) (k : ℕ) (a : Told) → Says o t k u a →
+    RefusesExactly o t k a × ((e : Refusal) → a ≡ refused e → u ≡ t)
+unfolding tableNext
+call-says o t u k a s = rw (s .told, s .table) (refuses-exactly o t k, refused-table t k o)
