@@ -1,2 +1,3 @@
 pub mod RefusalLaws
 pub mod OutcomeLaws
+pub mod StatedLaws
