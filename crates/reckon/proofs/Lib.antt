@@ -1,3 +1,4 @@
 pub mod WideningLaws
 pub mod NearestLaws
 pub mod ReckonedLaws
+pub mod StatedLaws
