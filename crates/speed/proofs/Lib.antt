@@ -1,2 +1,3 @@
 pub mod RoundingLaws
 pub mod SpeedLaws
+pub mod StatedLaws

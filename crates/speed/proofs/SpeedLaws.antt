@@ -5,7 +5,7 @@ use mathlib.Core.Logic.{⊎-elim}
 use Prim.Native.Nat.{ℕ, suc, _+_, _*_, _-_, _^_, _≤_, _<_}
 use native.Mathlib.Nat.{mul-le-mul, mul-le-mul-right}
 use native.Mathlib.Omega.{arith}
-use borrow.Author.Tests.{ltb-true}
+use borrow.Author.Tests.{ltb-true, lt-ltb, le-leb}
 use lib.IntN.{ℤ, pos, natAbs, _-ℤ_, _*ℤ_}
 use Rattle.integers.specs.Integer.{plus, minus, modZ, floorZ}
 use Rattle.integers.proofs.Balance.{Decided, yes, no, test, abs-is, bal-sub, bal-scale, modZ-lt, floor-is}
@@ -45,6 +45,18 @@ limits D T F h =
     let a = and-eq-true-iff (goodCount D && goodSamples T) (goodRate F) .0 h in
     let b = and-eq-true-iff (goodCount D) (goodSamples T) .0 (a .0) in
     record { count = ltb-true (natAbs D) (2 ^ 31) (b .0); samples = between 1 (2 ^ 32 - 1) T (b .1); rate = between 1 1000000 F (a .1) }
+
+-- Within the limits nothing is refused.
+pub limits-good : (D : ℤ) (T F : ℕ) → Limits D T F → goodSpeed D T F ≡ true
+unfolding goodSpeed goodCount
+limits-good D T F k =
+    rw (
+      lt-ltb (natAbs D) (2 ^ 31) (k .count),
+      le-leb 1 T (k .samples .0),
+      le-leb T (2 ^ 32 - 1) (k .samples .1),
+      le-leb 1 F (k .rate .0),
+      le-leb F 1000000 (k .rate .1),
+    )
 
 pub product-small : (D : ℤ) (T F : ℕ) → Limits D T F → natAbs (D *ℤ pos (1000 * F)) < 2 ^ 61
 product-small D T F k =
