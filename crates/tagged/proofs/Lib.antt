@@ -2,3 +2,4 @@ pub mod BytesLaws
 pub mod StoreLaws
 pub mod FieldLaws
 pub mod TwosLaws
+pub mod StatedLaws
