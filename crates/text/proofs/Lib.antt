@@ -1,3 +1,4 @@
 pub mod DecimalLaws
 pub mod TextLaws
 pub mod OutcomeLaws
+pub mod StatedLaws
