@@ -4,7 +4,7 @@ use mathlib.Core.List.{List, [], _∷_, map}
 use Prim.Native.Nat.{ℕ, _*_}
 use lib.IntN.{ℤ, pos, negsuc, natAbs, _-ℤ_, _*ℤ_}
 use Rattle.integers.specs.Integer.{floorZ}
-use Rattle.reckon.specs.Reckoned.{refusalIn, valueIn}
+use Rattle.reckon.specs.Reckoned.{valueIn}
 use Rattle.speed.specs.declared.Speed.{Speed}
 use Rattle.speed.specs.declared.Speed.the-variants.{Of}
 use Rattle.speed.specs.Rounding.{rounded}
