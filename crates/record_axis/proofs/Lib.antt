@@ -1,2 +1,3 @@
 pub mod LimitsLaws
 pub mod AxisLaws
+pub mod StatedLaws
