@@ -3,3 +3,4 @@ pub mod RoundTrip
 pub mod WriterLaws
 pub mod AnswerLaws
 pub mod RecordLaws
+pub mod StatedLaws
