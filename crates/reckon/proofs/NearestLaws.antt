@@ -187,3 +187,13 @@ nearest w W z r h = go (verdict w W r)
     go (at g p b l i e) =
         let q : p ≡ z = cc in
         (rw q at i, record { bits = rw q at b; less = rw q at l; one = only w W z r (rw q at b) (rw q at l) })
+
+-- A value in the range that has the low bits of a good reading and lies nearest W in this sense is the answer.
+pub nearest-only : (w : ℕ) (W z : ℤ) (r : ℕ) → goodWidth w ≡ true → inRange W ≡ true → inRange z ≡ true → Nearest w W r z →
+    widened w W r ≡ Number z
+nearest-only w W z r wide okW ok n = rw (n .bits) at (true-position w W z wide okW ok (n .less))
+
+-- Any other value with the low bits of a reading lies strictly farther from W than the answer.
+pub others-farther : (w : ℕ) (W z y : ℤ) (r : ℕ) → widened w W r ≡ Number z → modZ y (2 ^ w) ≡ r → (y ≡ z → ⊥) →
+    natAbs (z -ℤ W) < natAbs (y -ℤ W)
+others-farther w W z y r h e other = ⊎-elim (λ q. absurd (other q)) (λ l. l) (nearest w W z r h .1 .one y e)
