@@ -26,6 +26,21 @@ bytes-take (suc n) [] b i = omega arith
 bytes-take (suc n) (x ∷ xs) b zero = b 0
 bytes-take (suc n) (x ∷ xs) b (suc i) = bytes-take n xs (λ j. b (suc j)) i
 
+pub bytes-append : (xs ys : List ℕ) → AllBytes xs → AllBytes ys → AllBytes (xs ++ ys)
+bytes-append [] ys b c i = c i
+bytes-append (x ∷ xs) ys b c zero = b 0
+bytes-append (x ∷ xs) ys b c (suc i) = bytes-append xs ys (λ j. b (suc j)) c i
+
+-- What a number is put into are bytes.
+pub bytes-all : (n v : ℕ) → AllBytes (bytesOf n v)
+unfolding bytesOf
+bytes-all zero v i = omega arith
+bytes-all (suc n) v i = bytes-append (bytesOf n (v / 256)) (v % 256 ∷ []) (bytes-all n (v / 256)) last i
+  where
+    last : AllBytes (v % 256 ∷ [])
+    last zero = omega arith
+    last (suc i) = omega arith
+
 -- ---- one byte more
 
 number-snoc : (v : ℕ) (xs : List ℕ) (b : ℕ) → numberFrom v (xs ++ (b ∷ [])) ≡ numberFrom v xs * 256 + b
