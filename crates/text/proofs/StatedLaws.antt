@@ -1,8 +1,14 @@
 -- What document 01 states, computed to its end: "Trace program", byte for byte.
-use mathlib.Core.Path.{_≡_, refl}
-use mathlib.Core.List.{[], _∷_}
+use Prim.Native.Nat.{ℕ, _+_, _≤_}
+use native.Mathlib.Nat.{zero-add}
+use native.Mathlib.Omega.{arith}
+use mathlib.Core.Path.{_≡_, refl, ap, _∙_}
+use mathlib.Core.List.{List, [], _∷_, _++_}
 use lib.IntN.{pos, negsuc}
-use Rattle.text.specs.Text.{digitsIn, decimal, numeral, lineOf, textOf}
+use lib.ListN.{length, drop}
+use lib.Seq.{length-sets, sets-eq}
+use Rattle.text.specs.Text.{digitsIn, decimal, numeral, lineOf, textOf, Writes}
+use Rattle.text.specs.declared.report.Report.{Report}
 
 -- Five samples, position 4 and no double step: "samples 5", "position 4" and "doubles 0", each with a line feed.
 pub forward-text :
@@ -21,3 +27,10 @@ pub backward-text :
     ∷ 100 ∷ 111 ∷ 117 ∷ 98 ∷ 108 ∷ 101 ∷ 115 ∷ 32 ∷ 53 ∷ 52 ∷ 51 ∷ 10 ∷ []
 unfolding digitsIn decimal numeral lineOf textOf
 backward-text = refl
+
+-- A report's text stands at the front of the buffer, and every byte behind it is as it was.
+pub text-front : (r : Report) (b d : List ℕ) (n : ℕ) → Writes r b d n → d ≡ textOf r ++ drop n b
+text-front r b d n w =
+    let long = ap length (w .buffer) ∙ length-sets b 0 (textOf r) in
+    let fits : 0 + length (textOf r) ≤ length b = omega (arith, long, w .fits, w .number) in
+    w .buffer ∙ sets-eq (textOf r) b 0 fits ∙ rw (zero-add, w .number)
