@@ -1,3 +1,4 @@
 pub mod TestLaws
 pub mod ConfigLaws
 pub mod RowLaws
+pub mod StatedLaws
