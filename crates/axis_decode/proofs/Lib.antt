@@ -1,3 +1,4 @@
 pub mod Check
 pub mod DecodeLaws
 pub mod TableLaws
+pub mod StatedLaws

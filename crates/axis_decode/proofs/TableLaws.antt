@@ -1,5 +1,5 @@
 -- The laws of the three transition tables: document 01, "A port sample", Decode. Their rule is one test, computed at every pair of codes.
-use Prim.Native.Nat.{ℕ, suc, _<_}
+use Prim.Native.Nat.{ℕ, suc, _+_, _/_, _%_, _<_}
 use mathlib.Core.Path.{_≡_, refl, sym, ap, _∙_}
 use mathlib.Core.Bool.{Bool, true, false, cond, not, _&&_, _||_, Bool·beq, true≢false}
 use mathlib.Core.List.{List}
@@ -48,6 +48,10 @@ each true true false d e t = absurd t
 each true false c d e t = absurd t
 each false b c d e t = absurd t
 
+-- A test that passes at every pair of codes, at one of them.
+at-pair : (f : ℕ → ℕ → Bool) → T (every 4 (λ i. every 4 (λ j. f i j))) → (i j : ℕ) → i < 4 → j < 4 → T (f i j)
+at-pair f t i j a b = at 4 (f i) (at 4 (λ i. every 4 (λ j. f i j)) t i a) j b
+
 -- ---- the rule of a table at one pair of codes, in five parts
 
 module _ (rows : List (List Move)) (i j : ℕ) where
@@ -93,10 +97,7 @@ fair-tables false false = tt
 module _ (kind i j : ℕ) (a : i < 4) (b : j < 4) where
   fair-at : T (fair (tableOf kind) i j)
   unfolding tableOf
-  fair-at =
-      at 4 (λ j. fair (tableOf kind) i j)
-      (at 4 (λ i. every 4 (λ j. fair (tableOf kind) i j)) (fair-tables (eqb kind X4) (eqb kind X2)) i a)
-      j b
+  fair-at = at-pair (fair (tableOf kind)) (fair-tables (eqb kind X4) (eqb kind X2)) i j a b
 
   abbrev t : List (List Move)
   t = tableOf kind
@@ -146,3 +147,42 @@ cycle-forward kind h = go (test (eqb kind X1)) (test (eqb kind X2)) (test (eqb k
     go (no e) (yes f) r = rw (eqb-true kind X2 f)
     go (no e) (no f) (yes g) = rw (eqb-true kind X4 g)
     go (no e) (no f) (no g) = absurd (true≢false (sym h ∙ rw (e, f, g)))
+
+-- ---- the three tables against each other, and E, by the levels of A and B that a code has: code % 2 and code / 2
+
+-- x4's entry where A changes, and 0 where it does not.
+edgeA : ℕ → ℕ → Move
+edgeA i j = cond (eqb (i % 2) (j % 2)) Still (entryIn x4 i j)
+
+-- x2's entry where B is 0 before and after and where x4 has E, and 0 elsewhere.
+edgeLow : ℕ → ℕ → Move
+edgeLow i j = cond (eqb (i / 2 + j / 2) 0 || isE (entryIn x4 i j)) (entryIn x2 i j) Still
+
+edges-hold : T (every 4 (λ i. every 4 (λ j. same (entryIn x2 i j) (edgeA i j))))
+unfolding same mark isE edgeA x2 x4
+edges-hold = tt
+
+lows-hold : T (every 4 (λ i. every 4 (λ j. same (entryIn x1 i j) (edgeLow i j))))
+unfolding same mark isE edgeLow x1 x2 x4
+lows-hold = tt
+
+doubles-hold : T (every 4 (λ i. every 4 (λ j. Bool·beq (opposite i j) (eqb (i + j) 3))))
+unfolding opposite
+doubles-hold = tt
+
+module _ (i j : ℕ) (a : i < 4) (b : j < 4) where
+  -- x2 is x4 at A's edges, and 0 where B alone changes.
+  pub x2-edges : entry X2 i j ≡ cond (eqb (i % 2) (j % 2)) Still (entry X4 i j)
+  unfolding edgeA entry tableOf
+  x2-edges = same-is (entryIn x2 i j) (edgeA i j) (at-pair (λ i j. same (entryIn x2 i j) (edgeA i j)) edges-hold i j a b)
+
+  -- x1 is x2 where B is 0 and where x4 has E, and 0 elsewhere.
+  pub x1-edges : entry X1 i j ≡ cond (eqb (i / 2 + j / 2) 0 || isE (entry X4 i j)) (entry X2 i j) Still
+  unfolding edgeLow entry tableOf
+  x1-edges = same-is (entryIn x1 i j) (edgeLow i j) (at-pair (λ i j. same (entryIn x1 i j) (edgeLow i j)) lows-hold i j a b)
+
+  -- E stands between 0 and 3 and between 1 and 2, and nowhere else, in every mode.
+  pub double-where : (kind : ℕ) → isE (entry kind i j) ≡ eqb (i + j) 3
+  double-where kind =
+      double-opposite kind i j a b
+      ∙ beq-is (opposite i j) (eqb (i + j) 3) (at-pair (λ i j. Bool·beq (opposite i j) (eqb (i + j) 3)) doubles-hold i j a b)
