@@ -1,2 +1,3 @@
 pub mod StepLaws
 pub mod KeepLaws
+pub mod StatedLaws
