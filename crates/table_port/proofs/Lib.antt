@@ -3,3 +3,4 @@ pub mod AnswerLaws
 pub mod MaskLaws
 pub mod PortLaws
 pub mod OutcomeLaws
+pub mod StatedLaws

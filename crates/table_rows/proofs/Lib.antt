@@ -1,2 +1,3 @@
 pub mod RowsLaws
 pub mod LocatedLaws
+pub mod StatedLaws
