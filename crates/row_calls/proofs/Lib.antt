@@ -3,3 +3,4 @@ pub mod AnswerLaws
 pub mod ChangeLaws
 pub mod SetupLaws
 pub mod ReasonLaws
+pub mod StatedLaws
