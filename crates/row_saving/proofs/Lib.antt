@@ -1,1 +1,2 @@
 pub mod SaveLaws
+pub mod StatedLaws

@@ -1,1 +1,2 @@
 pub mod SpeedLaws
+pub mod StatedLaws
