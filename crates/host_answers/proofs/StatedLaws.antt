@@ -11,7 +11,6 @@ use Rattle.record.specs.declared.answer.Tested.the-variants.{Accepted, Refused 
 use Rattle.record.specs.declared.answer.Written.the-variants.{Bytes, Refused as Unwritten}
 use Rattle.row_calls.specs.declared.answer.Done.the-variants.{Yes, Refused as Undone}
 use Rattle.row_calls.proofs.StatedLaws.{_is_, AsStated}
-use Rattle.row_view.specs.declared.answer.View.{View}
 use Rattle.row_view.specs.declared.answer.Viewed.{Viewed}
 use Rattle.row_view.specs.declared.answer.Viewed.the-variants.{Shows, Refused as Unseen}
 use Rattle.host_answers.specs.Answer.{answerValue, answerRefused, answerTo, answerSpeed, answerTest, answerDone, answerWritten}

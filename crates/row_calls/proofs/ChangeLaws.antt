@@ -105,7 +105,7 @@ pub kept-not : (q : Row) (e : Refusal) → Kept e ≡ To q → ⊥
 kept-not q e h = let z : _≡_ {A = ℕ} 0 1 = cc in omega arith
 
 -- A preset that is accepted.
-placed : (p : ℤ) (r q : Row) → placeRow p r ≡ To q → (inRange p ≡ true) × (To (rowOf (presetAxis p (axisOf r))) ≡ To q)
+pub placed : (p : ℤ) (r q : Row) → placeRow p r ≡ To q → (inRange p ≡ true) × (To (rowOf (presetAxis p (axisOf r))) ≡ To q)
 unfolding placeRow
 placed p r q e = go (test (inRange p))
   where

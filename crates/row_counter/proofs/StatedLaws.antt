@@ -1,5 +1,5 @@
 -- What document 01 states of a reading, computed to its end from four words: "Calls that name one axis", "Readings to hold it against".
-use Prim.Native.Nat.{ℕ, _+_, _-_, _*_, _^_}
+use Prim.Native.Nat.{_+_, _-_, _*_, _^_}
 use mathlib.Core.Path.{refl}
 use mathlib.Core.List.{[], _∷_}
 use lib.Dec.{lit<}

@@ -2,7 +2,6 @@
 use Prim.Native.Nat.{ℕ, _+_, _-_, _*_, _^_}
 use mathlib.Core.Path.{refl}
 use mathlib.Core.List.{List, [], _∷_, _++_}
-use lib.IntN.{pos}
 use lib.ListN.{replicate}
 use Rattle.position.specs.Position.{inRange, wordOf, positionOf}
 use Rattle.refusal.specs.declared.Refusal.the-variants.{Broken, Empty, Value, Room, Layout, Record}

@@ -1,4 +1,4 @@
--- What document 01 states of speed by period, computed to its end from four words: "Calls that name one axis", "Readings to hold it against".
+-- What document 01 states of speed by period, computed to its end from four words: "Calls that name one axis".
 use Prim.Native.Nat.{ℕ, _+_, _-_, _*_, _^_}
 use mathlib.Core.Path.{refl}
 use mathlib.Core.List.{[], _∷_}
@@ -16,8 +16,8 @@ use Rattle.row_speed.specs.Speed.{speedOf, speedRow}
 abbrev paced : ℕ → ℕ → ℕ → Row
 paced direction age period = words (2 ^ 62) (4 + 1 * 2 ^ 4 + PRIMED + direction * 2 ^ 48) (age + period * 2 ^ 32) 0
 
--- 1000 times the rate over the larger of period and age, with the direction's sign: direction 1 is forward, 2 is back. Then KIND for a
--- counter, VALUE for a rate outside 1 to 1,000,000, and NO PERIOD, in this order, after BROKEN and EMPTY.
+-- A speed is 1000 times the rate over the larger of period and age, with the direction's sign: 1 is forward, 2 is back. Refusals are
+-- BROKEN, EMPTY, KIND for a counter, VALUE for a rate outside 1 to 1,000,000, and NO PERIOD, in this order.
 pub speed-stated : AsStated (
     (speedRow 1000 (paced 1 0 5) is Of (pos 200000))
     ∷ (speedRow 1000 (paced 1 4 5) is Of (pos 200000))

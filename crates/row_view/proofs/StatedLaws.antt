@@ -25,8 +25,8 @@ view k p primed armed homed range index n = record {
   doubles = n;
 }
 
--- A view shows each flag by its own bit, kind, position and doubles; flags and doubles are 0 for a counter; an empty row is EMPTY and a broken
--- one BROKEN.
+-- A view shows each flag by its own bit, kind, position and doubles; flags and doubles are 0 for a counter; an empty row is EMPTY and a
+-- broken one BROKEN.
 pub view-stated : AsStated (
     (viewRow (busy (2 ^ 62 + 5) PRIMED 300) is Shows (view 2 (pos 5) true false false false false 300))
     ∷ (viewRow (idle (2 ^ 62) ARMED) is Shows (view 1 (pos 0) false true false false false 0))
