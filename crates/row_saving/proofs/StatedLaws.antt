@@ -19,13 +19,13 @@ use Rattle.row_calls.proofs.StatedLaws.{_is_, AsStated, words, PRIMED, HOMED, R
 use Rattle.row_saving.specs.Saving.{saveRow, savedIn, restoredBy, restoreRow}
 
 -- The record of an x4 axis of depth 3 with 4096 counts a turn at position -2.
-abbrev sampled : List ℕ
+abbrev pub sampled : List ℕ
 sampled =
     1 ∷ 0 ∷ 2 ∷ 0 ∷ 1 ∷ 2 ∷ 0 ∷ 1 ∷ 4 ∷ 3 ∷ 0 ∷ 8 ∷ 255 ∷ 255 ∷ 255 ∷ 255 ∷ 255 ∷ 255 ∷ 255 ∷ 254 ∷ 4 ∷ 0 ∷ 1 ∷ 3
     ∷ 6 ∷ 0 ∷ 4 ∷ 0 ∷ 0 ∷ 16 ∷ 0 ∷ 127 ∷ 0 ∷ 0 ∷ []
 
 -- The record of a counter of 8 bits at position 250.
-abbrev narrow : List ℕ
+abbrev pub narrow : List ℕ
 narrow =
     1 ∷ 0 ∷ 2 ∷ 0 ∷ 1 ∷ 2 ∷ 0 ∷ 1 ∷ 8 ∷ 3 ∷ 0 ∷ 8 ∷ 0 ∷ 0 ∷ 0 ∷ 0 ∷ 0 ∷ 0 ∷ 0 ∷ 250 ∷ 5 ∷ 0 ∷ 1 ∷ 8 ∷ 127 ∷ 0 ∷ 0 ∷ []
 

@@ -3,3 +3,4 @@ pub mod WordLaws
 pub mod SaveLaws
 pub mod OrderLaws
 pub mod OutcomeLaws
+pub mod StatedLaws

@@ -2,7 +2,7 @@
 use Prim.Native.Nat.{ℕ, _+_, _^_}
 use mathlib.Core.Path.{_≡_}
 use mathlib.Core.List.{List, [], _∷_}
-use Rattle.refusal.specs.declared.Refusal.the-variants.{Length, Axis, Empty}
+use Rattle.refusal.specs.declared.Refusal.the-variants.{Length, Axis}
 use Rattle.axis.specs.Limit.{mostAxes}
 use Rattle.axis_sound.specs.Sound.{statusOf}
 use Rattle.row_calls.specs.Change.{changed}
@@ -15,7 +15,7 @@ use Rattle.table_rows.specs.Located.{located}
 use Rattle.table_change.specs.Making.{tableAfter, Makes}
 
 -- A table of three: an x4 axis, a counter and an x1 axis.
-abbrev pub three : List ℕ
+abbrev three : List ℕ
 three = (2 ^ 62 + 1) ∷ 52 ∷ 0 ∷ 4096 ∷ (2 ^ 62 + 250) ∷ 2056 ∷ 0 ∷ 0 ∷ (2 ^ 62 + 3) ∷ 17 ∷ 0 ∷ 5 ∷ []
 
 -- An arm of axis 2 sets bit 15 of word 9 and leaves the eleven others; one of axis 3 is AXIS, and one in a table that lacks a word LENGTH,
