@@ -22,11 +22,21 @@ static void widening(void)
     expect("position 2^62 - 1", ubrenchip_widen(8, TOP, 255), UBRENCHIP_DONE, 0, TOP);
     expect("position past the top", ubrenchip_widen(8, TOP, 0), UBRENCHIP_RANGE, 0, 0);
     expect("half a turn past the top", ubrenchip_widen(8, TOP, 127), UBRENCHIP_HALF, 0, 0);
+    expect("reading 256 past the top", ubrenchip_widen(8, TOP, 256), UBRENCHIP_VALUE, 0, 0);
+    expect("reading 256 + 122, half a turn away", ubrenchip_widen(8, 250, 378), UBRENCHIP_VALUE, 0, 0);
     expect("position past the bottom", ubrenchip_widen(8, -TOP, 0), UBRENCHIP_RANGE, 0, 0);
     expect("half a turn past the bottom", ubrenchip_widen(8, -TOP, 129), UBRENCHIP_HALF, 0, 0);
     expect("old position 2^62", ubrenchip_widen(8, TOP + 1, 0), UBRENCHIP_VALUE, 0, 0);
+    expect("old position 2^62, half a turn away", ubrenchip_widen(8, TOP + 1, 128), UBRENCHIP_VALUE, 0, 0);
     expect("old position -2^62", ubrenchip_widen(8, -TOP - 1, 0), UBRENCHIP_VALUE, 0, 0);
     expect("old position the least number", ubrenchip_widen(8, INT64_MIN, 0), UBRENCHIP_VALUE, 0, 0);
+    for (unsigned width = 2; width <= 32; width++) {
+        int64_t half = INT64_C(1) << (width - 1);
+        expect("less than half a turn", ubrenchip_widen(width, -1, (uint64_t)half - 2), UBRENCHIP_DONE, 0, half - 2);
+        expect("half a turn", ubrenchip_widen(width, -1, (uint64_t)half - 1), UBRENCHIP_HALF, 0, 0);
+        expect("more than half a turn", ubrenchip_widen(width, -1, (uint64_t)half), UBRENCHIP_DONE, 0, -half);
+        expect("a whole turn", ubrenchip_widen(width, -1, (uint64_t)half * 2), UBRENCHIP_VALUE, 0, 0);
+    }
 }
 
 static void speed(void)
@@ -39,6 +49,7 @@ static void speed(void)
     expect("-3 in 2000 at 1", ubrenchip_speed_by_count(-3, 2000, 1), UBRENCHIP_DONE, 0, -2);
     expect("0 in 1 at 1", ubrenchip_speed_by_count(0, 1, 1), UBRENCHIP_DONE, 0, 0);
     expect("no samples", ubrenchip_speed_by_count(1, 0, 1), UBRENCHIP_VALUE, 0, 0);
+    expect("2^32 - 1 samples", ubrenchip_speed_by_count(2147483647, UINT32_MAX, 1), UBRENCHIP_DONE, 0, 500);
     expect("2^32 samples", ubrenchip_speed_by_count(1, INT64_C(4294967296), 1), UBRENCHIP_VALUE, 0, 0);
     expect("no rate", ubrenchip_speed_by_count(1, 1, 0), UBRENCHIP_VALUE, 0, 0);
     expect("a rate of 1,000,001", ubrenchip_speed_by_count(1, 1, 1000001), UBRENCHIP_VALUE, 0, 0);

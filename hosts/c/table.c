@@ -1,8 +1,16 @@
-/* The calls on a table, through the header that C programs use: document 01's readings, every refusal, and what a refused call leaves. */
+/* The calls on a table, through the header that C programs use: document 01's readings, every refusal, what each call leaves of every word
+   and byte, and runs past the limits. */
 #include "check.h"
 
 #define AXES 4
 #define WORDS (4 * AXES)
+
+/* Flags of word 1. */
+#define PRIMED (1u << 14)
+#define ARMED (1u << 15)
+#define HOMED (1u << 16)
+#define RANGE (1u << 17)
+#define INDEX (1u << 18)
 
 static uint64_t table[WORDS];
 static uint64_t before[WORDS];
@@ -11,6 +19,16 @@ static uint64_t before[WORDS];
 static const uint8_t saved[34] = {0x01, 0x00, 0x02, 0x00, 0x01, 0x02, 0x00, 0x01, 0x04, 0x03, 0x00, 0x08,
                                   0xFF, 0xFF, 0xFF, 0xFF, 0xFF, 0xFF, 0xFF, 0xFE, 0x04, 0x00, 0x01, 0x03,
                                   0x06, 0x00, 0x04, 0x00, 0x00, 0x10, 0x00, 0x7F, 0x00, 0x00};
+
+/* A counter of width 12 at 99. */
+static const uint8_t saved_counter[27] = {0x01, 0x00, 0x02, 0x00, 0x01, 0x02, 0x00, 0x01, 0x08, 0x03, 0x00, 0x08, 0x00, 0x00,
+                                          0x00, 0x00, 0x00, 0x00, 0x00, 0x63, 0x05, 0x00, 0x01, 0x0C, 0x7F, 0x00, 0x00};
+
+/* Word 0 at a position. */
+static uint64_t at(int64_t position)
+{
+    return (uint64_t)(position + TOP + 1);
+}
 
 /* ---- expectations */
 
@@ -83,6 +101,40 @@ static void kept(const char *what)
         same(what, table[i], before[i]);
 }
 
+/* Every row but one. */
+static void others_kept(const char *what, unsigned axis)
+{
+    for (unsigned i = 0; i < WORDS; i++) {
+        if (i / 4 != axis)
+            same(what, table[i], before[i]);
+    }
+}
+
+/* What stands in a buffer before a save: at each place another byte. */
+static uint8_t filler(unsigned at)
+{
+    return (uint8_t)(0xA5 + 7 * at);
+}
+
+static void fill(uint8_t *buffer, unsigned length)
+{
+    for (unsigned i = 0; i < length; i++)
+        buffer[i] = filler(i);
+}
+
+/* The record in front, and beyond it every byte as it was. */
+static void written(const char *what, const uint8_t *buffer, unsigned length, const uint8_t *record, unsigned count)
+{
+    for (unsigned i = 0; i < length; i++)
+        same(what, buffer[i], i < count ? record[i] : filler(i));
+}
+
+/* Every byte as it was. */
+static void unwritten(const char *what, const uint8_t *buffer, unsigned length)
+{
+    written(what, buffer, length, NULL, 0);
+}
+
 /* Every row empty. */
 static void empty(void)
 {
@@ -114,6 +166,7 @@ static void setting_up(void)
     refused("x4 with a width", ubrenchip_setup(table, WORDS, 1, 4, 3, 8, 4096), UBRENCHIP_VALUE);
     refused("2^32 a turn", ubrenchip_setup(table, WORDS, 1, 4, 3, 0, (uint64_t)UINT32_MAX + 1), UBRENCHIP_VALUE);
     refused("kind 3", ubrenchip_setup(table, WORDS, 1, 3, 3, 0, 4096), UBRENCHIP_VALUE);
+    refused("kind 256 + 4", ubrenchip_setup(table, WORDS, 1, 260, 3, 0, 4096), UBRENCHIP_VALUE);
     refused("width 1", ubrenchip_setup(table, WORDS, 3, 8, 0, 1, 0), UBRENCHIP_VALUE);
     refused("width 33", ubrenchip_setup(table, WORDS, 3, 8, 0, 33, 0), UBRENCHIP_VALUE);
     refused("counter with a depth", ubrenchip_setup(table, WORDS, 3, 8, 1, 32, 0), UBRENCHIP_VALUE);
@@ -121,6 +174,8 @@ static void setting_up(void)
     kept("refused setups");
     done("2^32 - 1 a turn", ubrenchip_setup(table, WORDS, 2, 1, 8, 0, UINT32_MAX));
     row("2^32 - 1 a turn", 2, (uint64_t)TOP + 1, 1 | 8 << 4, 0, UINT32_MAX);
+    done("counter of width 2", ubrenchip_setup(table, WORDS, 2, 8, 0, 2, 0));
+    row("counter of width 2", 2, at(0), 8 | 2 << 8, 0, 0);
     done("erase", ubrenchip_erase(table, WORDS, 1));
     row("erased row", 1, 0, 0, 0, 0);
     done("erase of an empty row", ubrenchip_erase(table, WORDS, 1));
@@ -150,6 +205,8 @@ static void double_steps(void)
     shows("0, 3, 2", ubrenchip_look(table, WORDS, 2), (ubrenchip_view){.position = 1, .kind = 4, .doubles = 1, .primed = 1});
     done("acknowledge", ubrenchip_acknowledge(table, WORDS, 2));
     shows("acknowledged", ubrenchip_look(table, WORDS, 2), (ubrenchip_view){.position = 1, .kind = 4, .primed = 1});
+    sampled("double step after a step", ubrenchip_sample(table, WORDS, 0x100), (ubrenchip_sampled){.doubles = 1 << 2});
+    shows("counted anew", ubrenchip_look(table, WORDS, 2), (ubrenchip_view){.position = 1, .kind = 4, .doubles = 1, .primed = 1});
 }
 
 static void filter(void)
@@ -173,8 +230,16 @@ static void limit(void)
     shows("held", ubrenchip_look(table, WORDS, 0), (ubrenchip_view){.position = TOP, .kind = 4, .primed = 1, .range = 1});
     quiet("back", 0, codes + 2, 1);
     shows("one less", ubrenchip_look(table, WORDS, 0), (ubrenchip_view){.position = TOP - 1, .kind = 4, .primed = 1, .range = 1});
+    quiet("forward", 0, codes + 1, 1);
+    shows("at the top again", ubrenchip_look(table, WORDS, 0), (ubrenchip_view){.position = TOP, .kind = 4, .primed = 1, .range = 1});
     done("preset to the bottom", ubrenchip_preset(table, WORDS, 0, -TOP));
     shows("preset", ubrenchip_look(table, WORDS, 0), (ubrenchip_view){.position = -TOP, .kind = 4, .primed = 1});
+    quiet("at the bottom", 0, codes, 1);
+    shows("held", ubrenchip_look(table, WORDS, 0), (ubrenchip_view){.position = -TOP, .kind = 4, .primed = 1, .range = 1});
+    quiet("forward", 0, codes + 1, 1);
+    shows("one more", ubrenchip_look(table, WORDS, 0), (ubrenchip_view){.position = 1 - TOP, .kind = 4, .primed = 1, .range = 1});
+    quiet("back", 0, codes + 2, 1);
+    shows("at the bottom again", ubrenchip_look(table, WORDS, 0), (ubrenchip_view){.position = -TOP, .kind = 4, .primed = 1, .range = 1});
     remember();
     refused("preset past the top", ubrenchip_preset(table, WORDS, 0, TOP + 1), UBRENCHIP_VALUE);
     refused("preset past the bottom", ubrenchip_preset(table, WORDS, 0, -TOP - 1), UBRENCHIP_VALUE);
@@ -202,6 +267,54 @@ static void homing(void)
     shows("preset", ubrenchip_look(table, WORDS, 1), (ubrenchip_view){.position = 7, .kind = 4, .primed = 1});
 }
 
+/* Armed axes at 7 whose first sample has Z at 1: they take the levels as they are and no more, whatever the code and the depth. */
+static void priming(void)
+{
+    static const uint64_t kinds[AXES] = {4, 4, 2, 1};
+    static const uint64_t depths[AXES] = {1, 3, 1, 8};
+    static const uint64_t lines[AXES] = {7, 6, 5, 5};
+    empty();
+    for (unsigned i = 0; i < AXES; i++) {
+        done("setup, 4 a turn", ubrenchip_setup(table, WORDS, i, kinds[i], depths[i], 0, 4));
+        done("preset", ubrenchip_preset(table, WORDS, i, 7));
+        done("arm", ubrenchip_arm(table, WORDS, i));
+    }
+    sampled("priming with Z at 1", ubrenchip_sample(table, WORDS, 0x5567), (ubrenchip_sampled){0});
+    for (unsigned i = 0; i < AXES; i++) {
+        row("primed", i, (uint64_t)TOP + 8, kinds[i] | depths[i] << 4 | PRIMED | ARMED | lines[i] << 19, 0, 4);
+        shows("primed", ubrenchip_look(table, WORDS, i),
+              (ubrenchip_view){.position = 7, .kind = (uint32_t)kinds[i], .primed = 1, .armed = 1});
+    }
+    sampled("Z stays", ubrenchip_sample(table, WORDS, 0x5567), (ubrenchip_sampled){0});
+    sampled("Z falls", ubrenchip_sample(table, WORDS, 0x1123), (ubrenchip_sampled){0});
+    sampled("Z rises where the depth is 1", ubrenchip_sample(table, WORDS, 0x5567), (ubrenchip_sampled){.index = 1 << 0 | 1 << 2});
+    shows("homed", ubrenchip_look(table, WORDS, 0), (ubrenchip_view){.kind = 4, .primed = 1, .homed = 1});
+    shows("not yet", ubrenchip_look(table, WORDS, 1), (ubrenchip_view){.position = 7, .kind = 4, .primed = 1, .armed = 1});
+}
+
+/* More double steps than are counted, in every mode and between both pairs of codes: each is marked, and doubles stay at 65,535. */
+static void every_double(void)
+{
+    static uint64_t all[24];
+    static const uint64_t kinds[6] = {4, 2, 1, 4, 2, 1};
+    for (unsigned i = 0; i < 6; i++)
+        done("setup", ubrenchip_setup(all, 24, i, kinds[i], 1, 0, 0));
+    sampled("priming", ubrenchip_sample(all, 24, 0x111000), (ubrenchip_sampled){0});
+    for (unsigned n = 1; n <= 65540 && !wrong; n++) {
+        sampled("double steps", ubrenchip_sample(all, 24, n % 2 ? 0x222333 : 0x111000), (ubrenchip_sampled){.doubles = 0x3F});
+        for (unsigned i = 0; i < 6; i++)
+            same("doubles", all[4 * i + 1] >> 32 & 0xFFFF, n < 65535 ? n : 65535);
+    }
+    sampled("no double step", ubrenchip_sample(all, 24, 0x111000), (ubrenchip_sampled){0});
+    for (unsigned i = 0; i < 6; i++)
+        shows("65,540 double steps", ubrenchip_look(all, 24, i),
+              (ubrenchip_view){.kind = (uint32_t)kinds[i], .doubles = 65535, .primed = 1});
+    done("acknowledge", ubrenchip_acknowledge(all, 24, 1));
+    sampled("double steps", ubrenchip_sample(all, 24, 0x222333), (ubrenchip_sampled){.doubles = 0x3F});
+    shows("counted anew", ubrenchip_look(all, 24, 1), (ubrenchip_view){.kind = 2, .doubles = 1, .primed = 1});
+    shows("not acknowledged", ubrenchip_look(all, 24, 2), (ubrenchip_view){.kind = 1, .doubles = 65535, .primed = 1});
+}
+
 /* A reading of a counter of width 8 from a position. */
 static ubrenchip_answer reading(int64_t from, uint64_t count)
 {
@@ -222,6 +335,9 @@ static void readings(void)
     value("-1, reading 0", reading(-1, 0), 0);
     value("0, reading 255", reading(0, 255), -1);
     refused("250, reading 256", reading(250, 256), UBRENCHIP_VALUE);
+    shows("not stored", ubrenchip_look(table, WORDS, 2), (ubrenchip_view){.position = 250, .kind = 8});
+    value("to the top", reading(TOP - 3, 255), TOP);
+    shows("stored", ubrenchip_look(table, WORDS, 2), (ubrenchip_view){.position = TOP, .kind = 8});
     refused("past the top", reading(TOP, 0), UBRENCHIP_RANGE);
     shows("not stored", ubrenchip_look(table, WORDS, 2), (ubrenchip_view){.position = TOP, .kind = 8});
 }
@@ -255,19 +371,16 @@ static void speed_by_period(void)
 static void saving(void)
 {
     uint8_t buffer[40];
-    for (unsigned i = 0; i < sizeof buffer; i++)
-        buffer[i] = 0xA5;
+    fill(buffer, sizeof buffer);
     empty();
     done("setup", ubrenchip_setup(table, WORDS, 0, 4, 3, 0, 4096));
     done("preset", ubrenchip_preset(table, WORDS, 0, -2));
     remember();
     refused("a buffer of 33", ubrenchip_save(table, WORDS, 0, buffer, 33), UBRENCHIP_ROOM);
     refused("no buffer", ubrenchip_save(table, WORDS, 0, NULL, 0), UBRENCHIP_ROOM);
-    for (unsigned i = 0; i < sizeof buffer; i++)
-        same("the buffer is kept", buffer[i], 0xA5);
-    value("34 bytes", ubrenchip_save(table, WORDS, 0, buffer, 35), 34);
-    for (unsigned i = 0; i < sizeof buffer; i++)
-        same("the record", buffer[i], i < sizeof saved ? saved[i] : 0xA5);
+    unwritten("a buffer of 33", buffer, sizeof buffer);
+    value("34 bytes", ubrenchip_save(table, WORDS, 0, buffer, sizeof buffer), 34);
+    written("34 bytes, and none beyond", buffer, sizeof buffer, saved, sizeof saved);
     kept("saves");
     done("the record is one", ubrenchip_test_record(buffer, 34));
     table[12] = UINT64_MAX;
@@ -285,10 +398,78 @@ static void saving(void)
     kept("refused restores");
     done("setup of a counter", ubrenchip_setup(table, WORDS, 1, 8, 0, 12, 0));
     done("preset", ubrenchip_preset(table, WORDS, 1, 99));
-    value("27 bytes", ubrenchip_save(table, WORDS, 1, buffer, 27), 27);
+    fill(buffer, sizeof buffer);
+    refused("a buffer of 26", ubrenchip_save(table, WORDS, 1, buffer, 26), UBRENCHIP_ROOM);
+    unwritten("a buffer of 26", buffer, sizeof buffer);
+    value("27 bytes", ubrenchip_save(table, WORDS, 1, buffer, sizeof buffer), 27);
+    written("27 bytes, and none beyond", buffer, sizeof buffer, saved_counter, sizeof saved_counter);
+    value("27 bytes in 27", ubrenchip_save(table, WORDS, 1, buffer, 27), 27);
     done("restore", ubrenchip_restore(table, WORDS, 0, buffer, 27));
     shows("counter again", ubrenchip_look(table, WORDS, 0), (ubrenchip_view){.position = 99, .kind = 8});
     row("counter again", 0, table[4], table[5], table[6], table[7]);
+}
+
+/* ---- what a call leaves of every word */
+
+/* Of an axis with every field off zero: x4, depth 3, filtered A and Z at 1, runs 1, 2 and 1, direction back; doubles; age and period. */
+#define STATE (52 | PRIMED | 5 << 19 | 1 << 22 | 2 << 25 | 1 << 28 | (uint64_t)2 << 48)
+#define DOUBLES ((uint64_t)9 << 32)
+#define PACE (7 | (uint64_t)6 << 32)
+
+/* Makes row 1 such an axis at 5, with these flags. */
+static void busy(uint64_t flags)
+{
+    table[4] = at(5);
+    table[5] = STATE | flags | DOUBLES;
+    table[6] = PACE;
+    table[7] = 4096;
+}
+
+/* A call on axis 1: what it answers, the row it leaves, and every other row as it was. */
+static void leaves(const char *what, ubrenchip_answer got, int64_t stated, uint64_t w0, uint64_t w1, uint64_t w2, uint64_t w3)
+{
+    value(what, got, stated);
+    row(what, 1, w0, w1, w2, w3);
+    others_kept(what, 1);
+}
+
+/* A busy axis between one that is primed, a broken row and a counter. */
+static void one_row(void)
+{
+    uint8_t buffer[40];
+    empty();
+    done("setup", ubrenchip_setup(table, WORDS, 0, 4, 1, 0, 4));
+    done("setup", ubrenchip_setup(table, WORDS, 3, 8, 0, 8, 0));
+    table[8] = 1;
+    sampled("a broken row", ubrenchip_sample(table, WORDS, 3), (ubrenchip_sampled){.broken = 1 << 2});
+    busy(HOMED | RANGE | INDEX);
+    remember();
+    shows("looked at", ubrenchip_look(table, WORDS, 1),
+          (ubrenchip_view){.position = 5, .kind = 4, .doubles = 9, .primed = 1, .homed = 1, .range = 1, .index = 1});
+    kept("a look");
+    value("speed", ubrenchip_speed_by_period(table, WORDS, 1, 7), -1000);
+    kept("a speed");
+    value("save", ubrenchip_save(table, WORDS, 1, buffer, sizeof buffer), 34);
+    kept("a save");
+    leaves("preset of a homed axis", ubrenchip_preset(table, WORDS, 1, -1), 0, at(-1), STATE | INDEX | DOUBLES, PACE, 4096);
+    busy(HOMED | RANGE | INDEX);
+    leaves("acknowledge", ubrenchip_acknowledge(table, WORDS, 1), 0, at(5), STATE | HOMED | RANGE, PACE, 4096);
+    busy(HOMED | RANGE | INDEX);
+    leaves("arm", ubrenchip_arm(table, WORDS, 1), 0, at(5), STATE | ARMED | RANGE | INDEX | DOUBLES, PACE, 4096);
+    leaves("acknowledge of an armed axis", ubrenchip_acknowledge(table, WORDS, 1), 0, at(5), STATE | ARMED | RANGE, PACE, 4096);
+    busy(ARMED | RANGE | INDEX);
+    leaves("preset", ubrenchip_preset(table, WORDS, 1, 0), 0, at(0), STATE | ARMED | INDEX | DOUBLES, PACE, 4096);
+    busy(ARMED | RANGE | INDEX);
+    leaves("setup over an axis", ubrenchip_setup(table, WORDS, 1, 2, 1, 0, 8), 0, at(0), 2 | 1 << 4, 0, 8);
+    busy(ARMED | RANGE | INDEX);
+    leaves("restore over an axis", ubrenchip_restore(table, WORDS, 1, saved, sizeof saved), 0, at(-2), 52, 0, 4096);
+    busy(ARMED | RANGE | INDEX);
+    leaves("erase of an axis", ubrenchip_erase(table, WORDS, 1), 0, 0, 0, 0, 0);
+    busy(ARMED | HOMED);
+    leaves("setup over a broken row", ubrenchip_setup(table, WORDS, 1, 8, 0, 8, 0), 0, at(0), 8 | 8 << 8, 0, 0);
+    leaves("reading", ubrenchip_reading(table, WORDS, 1, 255), -1, at(-1), 8 | 8 << 8, 0, 0);
+    busy(ARMED | HOMED);
+    leaves("erase of a broken row", ubrenchip_erase(table, WORDS, 1), 0, 0, 0, 0, 0);
 }
 
 /* ---- the refusals that every call shares */
@@ -296,7 +477,8 @@ static void saving(void)
 /* Every call that names an axis, for one reason. */
 static void all_refused(const char *what, uint64_t *words, size_t count, uint64_t axis, uint32_t refusal, int any_row)
 {
-    uint8_t buffer[34] = {0xA5};
+    uint8_t buffer[40];
+    fill(buffer, sizeof buffer);
     if (any_row) {
         refused(what, ubrenchip_setup(words, count, axis, 4, 1, 0, 0), refusal);
         refused(what, ubrenchip_erase(words, count, axis), refusal);
@@ -309,18 +491,22 @@ static void all_refused(const char *what, uint64_t *words, size_t count, uint64_
     refused(what, ubrenchip_reading(words, count, axis, 0), refusal);
     refused(what, ubrenchip_speed_by_period(words, count, axis, 1000), refusal);
     refused(what, ubrenchip_save(words, count, axis, buffer, sizeof buffer), refusal);
-    same("the buffer is kept", buffer[0], 0xA5);
+    unwritten(what, buffer, sizeof buffer);
 }
 
-/* Rows 0 to 3: an axis that has run, a counter, a broken row, an empty one. */
+/* Rows 0 to 3: a counter, an empty one, a broken one, and behind it an axis that has run. */
 static void four_rows(void)
 {
     empty();
-    done("setup", ubrenchip_setup(table, WORDS, 0, 4, 1, 0, 4));
-    done("setup", ubrenchip_setup(table, WORDS, 1, 8, 0, 8, 0));
+    done("setup", ubrenchip_setup(table, WORDS, 0, 8, 0, 8, 0));
+    done("setup", ubrenchip_setup(table, WORDS, 3, 4, 1, 0, 4));
     table[8] = 1;
     for (unsigned i = 0; i < 3; i++)
-        sampled("a broken row", ubrenchip_sample(table, WORDS, 0x7770 | i), (ubrenchip_sampled){.doubles = i == 2, .broken = 1 << 2});
+        sampled("a broken row", ubrenchip_sample(table, WORDS, 0x777 | i << 12),
+                (ubrenchip_sampled){.doubles = i == 2 ? 1 << 3 : 0, .broken = 1 << 2});
+    row("counter", 0, at(0), 8 | 8 << 8, 0, 0);
+    row("empty", 1, 0, 0, 0, 0);
+    row("broken", 2, 1, 0, 0, 0);
 }
 
 static void refusals(void)
@@ -334,11 +520,11 @@ static void refusals(void)
     all_refused("axis 4 of 4", table, WORDS, AXES, UBRENCHIP_AXIS, 1);
     all_refused("axis 2^62", table, WORDS, (uint64_t)TOP + 1, UBRENCHIP_AXIS, 1);
     all_refused("broken", table, WORDS, 2, UBRENCHIP_BROKEN, 0);
-    all_refused("empty", table, WORDS, 3, UBRENCHIP_EMPTY, 0);
-    refused("arm of a counter", ubrenchip_arm(table, WORDS, 1), UBRENCHIP_KIND);
-    refused("acknowledge of a counter", ubrenchip_acknowledge(table, WORDS, 1), UBRENCHIP_KIND);
-    refused("speed of a counter at rate 0", ubrenchip_speed_by_period(table, WORDS, 1, 0), UBRENCHIP_KIND);
-    refused("reading 2^62 of an axis", ubrenchip_reading(table, WORDS, 0, (uint64_t)TOP + 1), UBRENCHIP_KIND);
+    all_refused("empty", table, WORDS, 1, UBRENCHIP_EMPTY, 0);
+    refused("arm of a counter", ubrenchip_arm(table, WORDS, 0), UBRENCHIP_KIND);
+    refused("acknowledge of a counter", ubrenchip_acknowledge(table, WORDS, 0), UBRENCHIP_KIND);
+    refused("speed of a counter at rate 0", ubrenchip_speed_by_period(table, WORDS, 0, 0), UBRENCHIP_KIND);
+    refused("reading 2^62 of an axis", ubrenchip_reading(table, WORDS, 3, (uint64_t)TOP + 1), UBRENCHIP_KIND);
     kept("refused calls");
 }
 
@@ -361,9 +547,12 @@ int main(void)
     filter();
     limit();
     homing();
+    priming();
+    every_double();
     readings();
     speed_by_period();
     saving();
+    one_row();
     refusals();
     sixteen_axes();
     return verdict("the calls on a table", 0x1FFE);
