@@ -1,5 +1,7 @@
-// Damaged records, judged twice: by the proved record test through the C ABI, and by an independent reading of document 01, "The saved
-// record". Prints one line of counts and `no difference`, or the first slice on which the two differ, and then exits with 1.
+// Damaged records, judged three times: by the proved record test and by a proved restore, through the C ABI, and by an independent reading
+// of document 01, "The saved record". A refused restore has to keep the row. An accepted one has to leave the row that the record stands
+// for, and the row has to be saved as the same bytes again. Prints one line of counts and `no difference`, or the first slice on which they
+// differ, and then exits with 1.
 use std::collections::BTreeSet;
 use std::process::exit;
 
@@ -19,6 +21,20 @@ struct Tested {
 
 extern "C" {
     fn ubrenchip_test_record(slice: *const u8, length: usize) -> Tested;
+    fn ubrenchip_restore(
+        table: *mut u64,
+        words: usize,
+        axis: u64,
+        slice: *const u8,
+        length: usize,
+    ) -> Tested;
+    fn ubrenchip_save(
+        table: *const u64,
+        words: usize,
+        axis: u64,
+        buffer: *mut u8,
+        length: usize,
+    ) -> Tested;
 }
 
 // A refusal's number, 0 for none, and the layout number found.
@@ -28,14 +44,65 @@ struct Answer {
     found: u32,
 }
 
-fn proved(slice: &[u8]) -> Answer {
-    // The slice is alive during the call, which only reads it.
-    let r = unsafe { ubrenchip_test_record(slice.as_ptr(), slice.len()) };
-    assert_eq!(r.value, 0, "a record test has no value");
+fn answer(r: Tested) -> Answer {
+    assert_eq!(r.value, 0, "a record test and a restore have no value");
     Answer {
         refusal: r.refusal,
         found: r.found,
     }
+}
+
+fn tested(slice: &[u8]) -> Answer {
+    // The slice is alive during the call, which only reads it.
+    answer(unsafe { ubrenchip_test_record(slice.as_ptr(), slice.len()) })
+}
+
+// The row that an accepted slice stands for.
+fn stands_for(slice: &[u8]) -> [u64; 4] {
+    let kind = u64::from(slice[8]);
+    let position = u64::from_be_bytes(slice[12..20].try_into().unwrap());
+    let depth_or_width = u64::from(slice[23]);
+    let (shift, turn) = match kind {
+        8 => (8, 0),
+        _ => (4, u32::from_be_bytes(slice[27..31].try_into().unwrap())),
+    };
+    [
+        position.wrapping_add(1 << 62),
+        kind | depth_or_width << shift,
+        0,
+        turn.into(),
+    ]
+}
+
+// What a restore over a broken row answers, and whether it left what it should.
+fn restored(slice: &[u8]) -> (Answer, bool) {
+    let broken = [u64::MAX; 4];
+    let mut row = broken;
+    // The row and the slice are alive during the call and do not overlap.
+    let r = answer(unsafe {
+        ubrenchip_restore(row.as_mut_ptr(), row.len(), 0, slice.as_ptr(), slice.len())
+    });
+    if r.refusal != 0 {
+        return (r, row == broken);
+    }
+    let mut buffer = [0; 40];
+    // The same of the row and the buffer.
+    let saved = unsafe {
+        ubrenchip_save(
+            row.as_ptr(),
+            row.len(),
+            0,
+            buffer.as_mut_ptr(),
+            buffer.len(),
+        )
+    };
+    (
+        r,
+        row == stands_for(slice)
+            && saved.refusal == 0
+            && saved.value as usize == slice.len()
+            && buffer.starts_with(slice),
+    )
 }
 
 fn no(refusal: u32) -> Answer {
@@ -247,9 +314,11 @@ fn main() {
     }
     let (mut accepted, mut layout, mut misshapen, mut value) = (0, 0, 0, 0);
     for slice in &slices {
-        let (ours, theirs) = (proved(slice), judged(slice));
-        if ours != theirs {
-            println!("damage: a difference at the slice {slice:02x?}, seed {SEED:#x}: proved {ours:?}, read from the paper {theirs:?}");
+        let (test, theirs) = (tested(slice), judged(slice));
+        let (restore, left) = restored(slice);
+        if test != theirs || restore != theirs || !left {
+            println!("damage: a difference at the slice {slice:02x?}, seed {SEED:#x}");
+            println!("tested {test:?}; restored {restore:?}, left as it should be: {left}; read from the paper {theirs:?}");
             exit(1);
         }
         match theirs.refusal {
