@@ -143,18 +143,29 @@ ends-fed : {x : Trace} {t : Turn} → Ends x t → t .trace ≡ x
 ends-fed (last {x} {b} {d} {t} o n) = o .trace ∙ ap (fedWith x) (found-none (t .got) d n) ∙ fed-none x
 ends-fed (full h) = refl
 
--- No read is made where no byte would be looked at.
+-- Behind the limit no read is made.
 full-ends : {x : Trace} {t : Turn} → Ends x t → 4294967295 ≤ x .samples → t .got ≡ pos 0
 full-ends (last {x} {b} o n) h = absurd (omega (arith, o .some))
 full-ends (full g) h = refl
+
+-- Before it only a read that found nothing ends the reading.
+short-ends : {x : Trace} {t : Turn} → Ends x t → x .samples < 4294967295 →
+    (b : List ℕ) × (d : List ℕ) × ReadOnce x b d t × (Found (t .got) → ⊥)
+short-ends (last {x} {b} {d} o n) h = (b, d, o, n)
+short-ends (full g) h = absurd (omega arith)
 
 -- The report of what was read is document 01's of those bytes.
 pub read-report : {t : Turn} (i : InputRead t) → reportOf (t .trace) ≡ inputReport (i .bytes)
 read-report i = ap reportOf (ends-fed (i .ends) ∙ reads-fed (i .reads)) ∙ rule (i .bytes)
 
--- An input of 4,294,967,295 bytes or more is read, and no read fails: behind so many bytes none is made.
+-- Where 4,294,967,295 bytes were read, no read has failed.
 pub read-full : {t : Turn} (i : InputRead t) → length (i .bytes) ≡ 4294967295 → t .got ≡ pos 0
 read-full i e = full-ends (i .ends) (omega (arith, reads-taken (i .reads) .0))
+
+-- Where fewer were read, the last read was lent a byte or more and found none.
+pub read-short : {t : Turn} (i : InputRead t) → length (i .bytes) < 4294967295 →
+    (b : List ℕ) × (d : List ℕ) × ReadOnce (i .fed) b d t × (Found (t .got) → ⊥)
+read-short i h = short-ends (i .ends) (omega (arith, reads-taken (i .reads) .0))
 
 -- ---- the report
 
