@@ -8,6 +8,7 @@ pub mod CountIsRight
 pub mod ToldAlone
 pub mod Restoring
 pub mod LazyPrograms
+pub mod Asked
 pub mod Shafts
 pub mod UserSees
 pub mod Refusing
