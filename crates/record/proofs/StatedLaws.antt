@@ -58,7 +58,7 @@ record-read = refl
 -- ---- the order of a record's checks, on slices that fail one and slices that fail several
 
 -- LAYOUT with its number needs five bytes that open 01 00 02.
-pub layout-first :
+pub other-layouts :
     map readAs
     ((1 ∷ 0 ∷ 2 ∷ 0 ∷ 2 ∷ [])
     ∷ (1 ∷ 0 ∷ 2 ∷ 2 ∷ 1 ∷ 7 ∷ [])
@@ -68,7 +68,7 @@ pub layout-first :
     ∷ [])
     ≡ map Refused (Layout 2 ∷ Layout 513 ∷ Record ∷ Record ∷ Record ∷ [])
 unfolding numberFrom starts fieldAt counterAt sampledAt axisAt layoutRefusal endedAt readAs
-layout-first = refl
+other-layouts = refl
 
 -- After nine bytes a kind is VALUE, then the rest of the shape is RECORD, then position, depth and width are VALUE.
 pub then-values :

@@ -26,6 +26,7 @@ bytes-take (suc n) [] b i = omega arith
 bytes-take (suc n) (x ∷ xs) b zero = b 0
 bytes-take (suc n) (x ∷ xs) b (suc i) = bytes-take n xs (λ j. b (suc j)) i
 
+-- Bytes and bytes behind them are bytes.
 pub bytes-append : (xs ys : List ℕ) → AllBytes xs → AllBytes ys → AllBytes (xs ++ ys)
 bytes-append [] ys b c i = c i
 bytes-append (x ∷ xs) ys b c zero = b 0
