@@ -133,7 +133,7 @@ back a h k = ap (λ (l : List ℕ). getD l k 0) (split-join layout (fieldsOf a) 
 back-flag : (a : Axis) → Narrow a → (k : ℕ) (b : Bool) → getD (fieldsOf a) k 0 ≡ bitOf b → eqb (getD (split 0 layout (word1Of a)) k 0) 1 ≡ b
 back-flag a h k b e = ap (λ (x : ℕ). eqb x 1) (back a h k ∙ e) ∙ flag-bit b
 
--- HEADLINE: an axis that a row can hold comes back from its row as it was.
+-- An axis that a row can hold comes back from its row as it was.
 pub comes-back : (a : Axis) → Held a → axisOf (rowOf a) ≡ a
 comes-back a h =
     let n = h .narrow in

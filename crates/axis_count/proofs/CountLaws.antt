@@ -60,7 +60,7 @@ count-keeps Double w h = h
 count-keeps Forward w h = word-by (ltb w (2 ^ 63 - 1)) w (w + 1) h (λ t. record { above = omega arith; below = omega (arith, ltb-true) })
 count-keeps Back w h = word-by (ltb 1 w) w (w - 1) h (λ t. record { above = omega (arith, ltb-true); below = omega arith })
 
--- HEADLINE: an entry whose step stays in the range moves the position by what it is worth, and leaves RANGE.
+-- An entry whose step stays in the range moves the position by what it is worth, and leaves RANGE.
 pub moves : (m : Move) (w : ℕ) (r : Bool) → inRange (positionOf w +ℤ worth m) ≡ true →
     (positionOf (countedWord m w) ≡ positionOf w +ℤ worth m) × (countedRange m w r ≡ r)
 unfolding countedRange countedWord worth
@@ -69,7 +69,7 @@ moves Double w r h = (stays w, refl)
 moves Forward w r h = rw (lt-ltb w (2 ^ 63 - 1) (room-up w h)) (up w, refl)
 moves Back w r h = rw (lt-ltb 1 w (room-down w h)) (down w (omega (arith, room-down w h)), refl)
 
--- HEADLINE: an entry whose step would leave the range holds the position, and sets RANGE.
+-- An entry whose step would leave the range holds the position, and sets RANGE.
 pub holds : (m : Move) (w : ℕ) (r : Bool) → Word w → inRange (positionOf w +ℤ worth m) ≡ false →
     (countedWord m w ≡ w) × (countedRange m w r ≡ true)
 unfolding countedRange countedWord worth
@@ -85,7 +85,7 @@ holds Back w r k h =
     ∙ position-in-range (w - 1) (record { above = omega (arith, ltb-true); below = omega (arith, k .below) }))
     h
 
--- HEADLINE: a count that leaves RANGE clear found it clear, and moves the position by what the entry is worth.
+-- A count that leaves RANGE clear found it clear, and moves the position by what the entry is worth.
 pub counted : (m : Move) (w : ℕ) (r : Bool) → countedRange m w r ≡ false →
     (r ≡ false) × (positionOf (countedWord m w) ≡ positionOf w +ℤ worth m)
 unfolding countedRange countedWord worth
@@ -94,7 +94,7 @@ counted Double w r e = (e, stays w)
 counted Forward w r e = counted-by (ltb w (2 ^ 63 - 1)) r w (w + 1) (pos 1) (λ t. up w) e
 counted Back w r e = counted-by (ltb 1 w) r w (w - 1) (negsuc 0) (λ t. down w (omega (arith, ltb-true))) e
 
--- HEADLINE: doubles grow by 1 at each double step, and stop at 65,535.
+-- Doubles grow by 1 at each double step, and stop at 65,535.
 pub doubles-count : (m : Move) (n : ℕ) → n ≤ 65535 → countedDoubles m n ≡ min 65535 (n + cond (isE m) 1 0)
 unfolding countedDoubles
 doubles-count m n h = go (isE m)

@@ -106,22 +106,22 @@ module _ (kind i j : ℕ) (a : i < 4) (b : j < 4) where
   unfolding fair
   parts = each (cancels t i j) (doubles t i j) (ahead t i j) (behind t i j) (stays t i j) fair-at
 
-  -- HEADLINE: the entries there and back cancel, so chatter at an edge never climbs.
+  -- The entries there and back cancel, so chatter at an edge never climbs.
   pub there-and-back : worth (entry kind i j) +ℤ worth (entry kind j i) ≡ pos 0
   unfolding cancels there back entry
   there-and-back = zero-is (worth (entry kind i j) +ℤ worth (entry kind j i)) (parts .0)
 
-  -- HEADLINE: E stands exactly between the codes that differ in both lines.
+  -- E stands exactly between the codes that differ in both lines.
   pub double-opposite : isE (entry kind i j) ≡ opposite i j
   unfolding doubles there entry
   double-opposite = beq-is (isE (entry kind i j)) (opposite i j) (parts .1)
 
-  -- HEADLINE: + stands only from a code to the next one forward.
+  -- + stands only from a code to the next one forward.
   pub forward-next : entry kind i j ≡ Forward → j ≡ nextCode i
   unfolding ahead there entry same mark
   forward-next e = eqb→eq j (nextCode i) (implied (same (entry kind i j) Forward) (eqb j (nextCode i)) (parts .2) (rw e tt))
 
-  -- HEADLINE: - stands only from a code to the one before it.
+  -- - stands only from a code to the one before it.
   pub back-next : entry kind i j ≡ Back → i ≡ nextCode j
   unfolding behind there entry same mark
   back-next e = eqb→eq i (nextCode j) (implied (same (entry kind i j) Back) (eqb i (nextCode j)) (parts .3) (rw e tt))
@@ -131,11 +131,11 @@ module _ (kind i j : ℕ) (a : i < 4) (b : j < 4) where
   unfolding stays there entry
   still-same e = same-is (entry kind i j) Still (implied (eqb i j) (same (entry kind i j) Still) (parts .4) (rw e (eqb-refl j)))
 
--- HEADLINE: E stands in every mode where x4 has it.
+-- E stands in every mode where x4 has it.
 pub double-as-x4 : (kind i j : ℕ) → i < 4 → j < 4 → isE (entry kind i j) ≡ isE (entry X4 i j)
 double-as-x4 kind i j a b = double-opposite kind i j a b ∙ sym (double-opposite X4 i j a b)
 
--- HEADLINE: a whole cycle forward counts the number of the mode.
+-- A whole cycle forward counts the number of the mode.
 pub cycle-forward : (kind : ℕ) → sampledKind kind ≡ true →
     worth (entry kind 0 1) +ℤ worth (entry kind 1 3) +ℤ worth (entry kind 3 2) +ℤ worth (entry kind 2 0) ≡ pos kind
 unfolding worth entry tableOf x1 x2 x4

@@ -34,7 +34,7 @@ module _ (d : ℕ) (l : Line) where
   unfolding filterLine
   early-waits h = rw (beq-other (l .level), ne-eqb (l .run + 1) d (λ e. let z : ⊥ = omega arith in z))
 
-  -- HEADLINE: a run below the depth stays below it.
+  -- A run below the depth stays below it.
   pub filter-short : (raw : Bool) → l .run < d → filterLine d l raw .run < d
   unfolding filterLine
   filter-short raw h = go (Bool·beq raw (l .level)) (test (eqb (l .run + 1) d))

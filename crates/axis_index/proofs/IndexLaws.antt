@@ -48,7 +48,7 @@ back-turns a m h =
         let g : m - suc (a % m) ≡ 0 = omega arith in
         rw (g, f, mod-self)
 
--- HEADLINE: the check is of the position itself: it fails where the position's remainder by the counts per turn is not 0.
+-- The check is of the position itself: it fails where the position's remainder by the counts per turn is not 0.
 pub off-turn-is : (turn : ℕ) (p : ℤ) → 0 < turn → offTurn turn p ≡ not (eqb (modZ p turn) 0)
 unfolding offTurn modZ
 off-turn-is turn (pos a) h = rw (lt-ltb 0 turn h)

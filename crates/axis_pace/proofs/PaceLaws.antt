@@ -52,7 +52,7 @@ resting Double direction age period h e = refl
 
 -- ---- the period
 
--- HEADLINE: a sample after which the direction is another one has no period.
+-- A sample after which the direction is another one has no period.
 pub turned : (m : Move) (direction age period : ℕ) → (direction ≡ pacedDirection m direction → ⊥) → pacedPeriod m direction age period ≡ 0
 unfolding pacedDirection pacedPeriod stepPeriod
 turned Still direction age period h = absurd (h refl)
@@ -60,7 +60,7 @@ turned Forward direction age period h = rw (ne-eqb direction 1 h, and-false)
 turned Back direction age period h = rw (ne-eqb direction 2 h, and-false)
 turned Double direction age period h = refl
 
--- HEADLINE: a step in the direction of the one before, fewer than 2 ^ 32 - 1 samples after it, has that number as its period.
+-- A step in the direction of the one before, fewer than 2 ^ 32 - 1 samples after it, has that number as its period.
 pub steady : (side age : ℕ) → age + 1 < 2 ^ 32 - 1 → stepPeriod side side age ≡ age + 1
 unfolding stepPeriod older
 steady side age h =

@@ -96,7 +96,7 @@ keep-prime x s g = record {
   runs = refl;
 }
 
--- HEADLINE: a sampled axis is a sampled axis after a sample.
+-- A sampled axis is a sampled axis after a sample.
 pub keep-step : (x : Axis) (s : Raw) → SampledAxis x → SampledAxis (stepAxis x s .axis)
 unfolding stepAxis outcome
 keep-step x s g = go (x .flags .primed)

@@ -67,7 +67,7 @@ step-config x s = go (x .flags .primed)
     go true = refl
     go false = refl
 
--- HEADLINE: priming counts nothing, homes nothing and sets no bit of the answer, whatever the levels are.
+-- Priming counts nothing, homes nothing and sets no bit of the answer, whatever the levels are.
 pub priming : (x : Axis) (s : Raw) → x .flags .primed ≡ false → Primed x s (stepAxis x s)
 unfolding primedBy
 priming x s h =

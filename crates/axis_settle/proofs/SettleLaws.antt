@@ -18,7 +18,7 @@ module _ (x : Axis) (n : Wire → Line) where
   unfolding settle
   entered = record { doubles = refl; pace = refl }
 
-  -- HEADLINE: a sample that does not home counts, and then checks.
+  -- A sample that does not home counts, and then checks.
   pub counts : (x .flags .armed && rises x n) ≡ false → Moved x n
   unfolding settle
   counts h = go (x .flags .armed) (rises x n) refl refl
@@ -29,7 +29,7 @@ module _ (x : Axis) (n : Wire → Line) where
           record { word = rw (q, p); range = rw (q, p, and-true); armed = rw (q, p); homed = rw (q, p, or-false); index = rw q }
       go false z p q = record { word = rw p; range = rw (p, and-true); armed = rw p; homed = rw (p, or-false); index = rw (p, and-true) }
 
-  -- HEADLINE: a sample that homes puts the position to 0, sets HOMED, clears ARMED and RANGE, and checks nothing.
+  -- A sample that homes puts the position to 0, sets HOMED, clears ARMED and RANGE, and checks nothing.
   pub homes-to-0 : (x .flags .armed && rises x n) ≡ true → Homed x n
   unfolding settle positionOf
   homes-to-0 h = go (x .flags .armed) (rises x n) refl refl
@@ -45,7 +45,7 @@ module _ (x : Axis) (n : Wire → Line) where
       go true false p q = absurd (true≢false (sym h ∙ rw (q, p)))
       go false z p q = absurd (true≢false (sym h ∙ rw p))
 
-  -- HEADLINE: a sample that does not home and leaves RANGE clear found it clear, and moves the position by what its entry is worth.
+  -- A sample that does not home and leaves RANGE clear found it clear, and moves the position by what its entry is worth.
   pub place : (x .flags .armed && rises x n) ≡ false → settle x n .flags .range ≡ false →
       (x .flags .range ≡ false) × (positionOf (settle x n .word) ≡ positionOf (x .word) +ℤ worth (moveTo x n))
   place h e =

@@ -188,22 +188,22 @@ setup-counter {c} {w} word s = record {
   rest = ap (λ (d : Config). freshAt d w) (same-config (record { kind = s .kind; depth = s .depth; width = refl; turn = s .turn }));
 }
 
--- HEADLINE: a row has a status exactly where it passes the test of that status.
+-- A row has a status exactly where it passes the test of that status.
 pub status-exactly : (s : Status) (r : Row) → (statusOf r ≡ s) ↔ (passes s r ≡ true)
 status-exactly s r = (passes-of s r, status-of s r)
 
--- HEADLINE: no row passes the tests of two statuses.
+-- No row passes the tests of two statuses.
 pub exclusive : (r : Row) (s t : Status) → passes s r ≡ true → passes t r ≡ true → s ≡ t
 exclusive r s t p q = sym (status-of s r p) ∙ status-of t r q
 
--- HEADLINE: the axis of a sampled row is within the limits of one.
+-- The axis of a sampled row is within the limits of one.
 pub sampled-gives : (r : Row) → statusOf r ≡ Sampled → SampledAxis (axisOf r)
 unfolding passes
 sampled-gives r e =
     let h = sampled-parts r (passes-of Sampled r e) in
     sampled-axis (axisOf r) (row-held r) (h .0 .word) (h .1) (h .2)
 
--- HEADLINE: an axis within those limits makes a sampled row.
+-- An axis within those limits makes a sampled row.
 pub sampled-from : {a : Axis} → SampledAxis a → statusOf (rowOf a) ≡ Sampled
 unfolding passes
 sampled-from {a} s =
@@ -214,7 +214,7 @@ sampled-from {a} s =
     (comes-back a h)
     ∙ rw (held-plain a h (s .word) (s .config .turn), sampled-passes (a .config) (s .config), sampled-consistent s))
 
--- HEADLINE: the axis of a counter row is a counter as setup leaves it, at some position.
+-- The axis of a counter row is a counter as setup leaves it, at some position.
 pub counter-gives : (r : Row) → statusOf r ≡ Counter → CounterAxis (axisOf r)
 unfolding passes
 counter-gives r e =
@@ -230,7 +230,7 @@ counter-gives r e =
       rest = waits ∙ (λ i. waiting (same i) (r .w0) (armed i));
     }
 
--- HEADLINE: such a counter makes a counter row.
+-- Such a counter makes a counter row.
 pub counter-from : {a : Axis} → CounterAxis a → statusOf (rowOf a) ≡ Counter
 unfolding passes
 counter-from {a} c =
@@ -247,7 +247,7 @@ counter-from {a} c =
       ap word2Of (c .rest),
     ))
 
--- HEADLINE: setup leaves a sound row, of the status that its kind says, at any position.
+-- Setup leaves a sound row, of the status that its kind says, at any position.
 pub setup-sound : (c : Config) (w : ℕ) → Word w → goodConfig (c .kind) (c .depth) (c .width) (c .turn) ≡ true →
     statusOf (rowOf (freshAt c w)) ≡ cond (sampledKind (c .kind)) Sampled Counter
 setup-sound c w word e =
@@ -256,12 +256,12 @@ setup-sound c w word e =
     (λ s. rw (counter-kind (c .kind) (s .kind)) (counter-from (setup-counter word s)))
     (good-cases c e)
 
--- HEADLINE: erase leaves an empty row, four zero words.
+-- Erase leaves an empty row, four zero words.
 pub erase-sound : (rowOf blank ≡ emptyRow) × (statusOf (rowOf blank) ≡ Empty)
 unfolding statusOf
 erase-sound = (refl, refl)
 
--- HEADLINE: a sound row, unpacked and packed, is the same four words.
+-- A sound row, unpacked and packed, is the same four words.
 pub packed-again : (r : Row) → Words r → (statusOf r ≡ Broken → ⊥) → rowOf (axisOf r) ≡ r
 unfolding passes
 packed-again r h sound = go (statusOf r) refl

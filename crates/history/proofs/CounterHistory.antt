@@ -37,13 +37,13 @@ use Rattle.history.proofs.RowHistory.{phase-lawful, status-history, cou
 
 -- ---- the place of a phase
 
--- HEADLINE: a setup that is accepted puts the place to 0.
+-- A setup that is accepted puts the place to 0.
 pub place-setup : (r : Row) (h : List Event) (kind depth width turn : ℕ) → goodConfig kind depth width turn ≡ true →
     phaseOf r (asked (changes (Setup kind depth width turn)) ∷ h) .place ≡ pos 0
 unfolding phaseOf afterEvent afterCall afterChange positionOf
 place-setup r h kind depth width turn good = rw good
 
--- HEADLINE: a restore that is accepted puts the place to the position saved.
+-- A restore that is accepted puts the place to the position saved.
 pub place-restore : (r : Row) (h : List Event) (bytes : List ℕ) (s : Saved) → readAs bytes ≡ Accepted s →
     phaseOf r (asked (restore bytes) ∷ h) .place ≡ s .position
 unfolding phaseOf afterEvent afterCall afterChange
@@ -53,18 +53,18 @@ module _ {r : Row} (words : Words r) (h : List Event) (counter : statusOf (rowSi
   first : statusOf (phaseOf r h .start) ≡ Counter
   first = sym (status-history words h) ∙ counter
 
-  -- HEADLINE: a preset in the range puts the place of a counter there.
+  -- A preset in the range puts the place of a counter there.
   pub place-preset : (z : ℤ) → inRange z ≡ true → phaseOf r (asked (changes (Preset z)) ∷ h) .place ≡ z
   unfolding phaseOf afterEvent afterCall afterChange
   place-preset z ok = rw (ok, first)
 
-  -- HEADLINE: a reading that is accepted puts the place of a counter where it says.
+  -- A reading that is accepted puts the place of a counter where it says.
   pub place-reading : (x : ℕ) (z : ℤ) → widened (axisOf (rowSince r h) .config .width) (positionOf (rowSince r h .w0)) x ≡ Number z →
       phaseOf r (asked (reading x) ∷ h) .place ≡ z
   unfolding phaseOf afterEvent afterCall afterChange
   place-reading x z e = rw (first, sym (reading-told words (tells words h) x first) ∙ e)
 
-  -- HEADLINE: the position of a counter is its phase's place.
+  -- The position of a counter is its phase's place.
   pub position-counter : positionOf (rowSince r h .w0) ≡ phaseOf r h .place
   unfolding changed
   position-counter =
@@ -73,7 +73,7 @@ module _ {r : Row} (words : Words r) (h : List Event) (counter : statusOf (rowSi
 
 -- ---- a counter on a shaft
 
--- HEADLINE: a sample, an arm, an acknowledge and a look leave every counter alone.
+-- A sample, an arm, an acknowledge and a look leave every counter alone.
 pub sample-aside : (n : ℕ) → Aside (bits n)
 unfolding rowNext
 sample-aside n r c = ap (λ (t : SteppedRow). t .row) (counter-stays r n c)
@@ -106,7 +106,7 @@ module _ (r : Row) (counter : statusOf r ≡ Counter) where
       q _ (ap statusOf same ∙ counter-follows r counter g .status) ∙ same
   only-readings (refusing {h} o e q d) g = refused-after (rowSince r h) o e q ∙ only-readings d g
 
-  -- HEADLINE: a counter on a shaft that moves less than half a turn between readings is where the shaft is, whatever else happens to its
+  -- A counter on a shaft that moves less than half a turn between readings is where the shaft is, whatever else happens to its
   -- row between.
   pub counter-shaft : {h : List Event} {ps : List ℤ} → CounterReads r width h ps → UnderHalf width start ps →
       positionOf (rowSince r h .w0) ≡ newest start ps

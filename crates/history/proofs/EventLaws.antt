@@ -205,7 +205,7 @@ module _ {r : Row} (words : Words r) where
     events (bits n) = by-sort (λ s. stepBy s now n .row) (acted p (sampled (rawOf n))) p refl refl (acts (sampled (rawOf n)) tt) (λ e. t)
     events (asked o) = calls o
 
-  -- HEADLINE: the phase after any events tells the row after them.
+  -- The phase after any events tells the row after them.
   pub tells : (h : List Event) → Tells r (phaseOf r h) (rowSince r h)
   unfolding phaseOf rowSince
   tells [] = starts given

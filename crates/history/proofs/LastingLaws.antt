@@ -32,12 +32,12 @@ use Rattle.history.proofs.RowHistory.{phase-lawful, row-history, status
 
 -- ---- one event
 
--- HEADLINE: a call that is refused changes nothing.
+-- A call that is refused changes nothing.
 pub refused-stays : (r : Row) (o : Op) (e : Refusal) → RefusedFor r o e → rowNext r (asked o) ≡ r
 unfolding rowNext
 refused-stays r o e q = refused-after r o e q
 
--- HEADLINE: a sample changes no empty row, no counter and no broken row.
+-- A sample changes no empty row, no counter and no broken row.
 pub sample-stays : (r : Row) (n : ℕ) → (statusOf r ≡ Sampled → ⊥) → rowNext r (bits n) ≡ r
 unfolding rowNext stepRow stepBy
 sample-stays r n not-sampled = go (statusOf r) refl
@@ -88,7 +88,7 @@ module _ (p : Phase) where
       sort-start p _ refl (read-start (widened (axisOf (p .start) .config .width) (p .place) x)) (statusOf (p .start))
   start-next (asked (looks l)) q = refl
 
--- HEADLINE: newer events that begin no phase leave the start of the phase that they found.
+-- Newer events that begin no phase leave the start of the phase that they found.
 pub start-since : (r : Row) (new old : List Event) → Lasting new → phaseOf r (new ++ old) .start ≡ phaseOf r old .start
 unfolding phaseOf
 start-since r [] old l = refl
@@ -100,11 +100,11 @@ unfolding phaseOf
 start-lasts r h l = ap (λ (g : List Event). phaseOf r g .start) (sym (append-nil h)) ∙ start-since r h [] l
 
 module _ {r : Row} (words : Words r) (h : List Event) (lasting : Lasting h) where
-  -- HEADLINE: a row stays empty, sampled, a counter or broken until a setup, an erase or a restore is accepted.
+  -- A row stays empty, sampled, a counter or broken until a setup, an erase or a restore is accepted.
   pub status-lasts : statusOf (rowSince r h) ≡ statusOf r
   status-lasts = status-history words h ∙ ap statusOf (start-lasts r h lasting)
 
-  -- HEADLINE: it keeps its kind, depth, width and counts per turn until then.
+  -- It keeps its kind, depth, width and counts per turn until then.
   pub configuration-lasts : axisOf (rowSince r h) .config ≡ axisOf r .config
   configuration-lasts =
       ap (λ (s : Row). axisOf s .config) (row-history words h)
@@ -118,17 +118,17 @@ module _ {r : Row} (words : Words r) (h : List Event) (lasting : Lasting h) wher
       let start = start-lasts r h lasting in
       row-history words h ∙ ap (λ (t : Status). toldBy t (phaseOf r h)) (ap statusOf start ∙ e) ∙ same ∙ start
 
-  -- HEADLINE: an empty row keeps every word until then.
+  -- An empty row keeps every word until then.
   pub empty-lasts : statusOf r ≡ Empty → rowSince r h ≡ r
   unfolding toldBy
   empty-lasts = idle-lasts Empty refl
 
-  -- HEADLINE: a broken row keeps every word until then.
+  -- A broken row keeps every word until then.
   pub broken-lasts : statusOf r ≡ Broken → rowSince r h ≡ r
   unfolding toldBy
   broken-lasts = idle-lasts Broken refl
 
-  -- HEADLINE: each sample on a broken row sets its broken bit and no other until then.
+  -- Each sample on a broken row sets its broken bit and no other until then.
   pub broken-marked : statusOf r ≡ Broken → (n : ℕ) →
       marksOf (stepRow (rowSince r h) n) ≡ record { double = false; index = false; broken = true }
   broken-marked e n = ap marksOf (broken-stays (rowSince r h) n (status-lasts ∙ e))

@@ -25,30 +25,30 @@ use Rattle.history_axis.proofs.StartLaws.{start-sound}
 use Rattle.history.proofs.PhaseLaws.{told-holds, axis-sampled, axis-counter}
 use Rattle.history.proofs.EventLaws.{tells}
 
--- HEADLINE: a history in two parts is the newer part from the row after the older one.
+-- A history in two parts is the newer part from the row after the older one.
 pub since-append : (r : Row) (new old : List Event) → rowSince r (new ++ old) ≡ rowSince (rowSince r old) new
 unfolding rowSince
 since-append r [] old = refl
 since-append r (e ∷ new) old = ap (λ (s : Row). rowNext s e) (since-append r new old)
 
 module _ {r : Row} (words : Words r) (h : List Event) where
-  -- HEADLINE: every phase begins with the given row or with one that an accepted setup, an erase or an accepted
+  -- Every phase begins with the given row or with one that an accepted setup, an erase or an accepted
   -- restore makes, its acts were accepted, and the place of a counter is in the range.
   pub phase-lawful : Lawful r (phaseOf r h)
   phase-lawful = tells words h .lawful
 
-  -- HEADLINE: the row after any events is, in all four words, the one that its phase tells.
+  -- The row after any events is, in all four words, the one that its phase tells.
   pub row-history : rowSince r h ≡ toldRow (phaseOf r h)
   row-history = tells words h .row
 
   whole : Holds (toldRow (phaseOf r h)) (statusOf (phaseOf r h .start)) (axisOf (toldRow (phaseOf r h)))
   whole = told-holds phase-lawful words
 
-  -- HEADLINE: it is empty, sampled, a counter or broken as the row that the phase began with.
+  -- It is empty, sampled, a counter or broken as the row that the phase began with.
   pub status-history : statusOf (rowSince r h) ≡ statusOf (phaseOf r h .start)
   status-history = ap statusOf row-history ∙ whole .status
 
-  -- HEADLINE: it is four words of 64 bits.
+  -- It is four words of 64 bits.
   pub words-history : Words (rowSince r h)
   words-history = rw row-history (whole .words)
 
@@ -62,7 +62,7 @@ module _ {r : Row} (words : Words r) (h : List Event) where
       axisOf (rowSince r h) ≡ readAxis (phaseOf r h .place) (axisOf (phaseOf r h .start))
   counter-history e = ap axisOf row-history ∙ axis-counter phase-lawful e
 
-  -- HEADLINE: a sample's bits of the answer are those that the phase tells.
+  -- A sample's bits of the answer are those that the phase tells.
   pub marks-history : (n : ℕ) → marksOf (stepRow (rowSince r h) n) ≡ toldMarks (phaseOf r h) n
   unfolding stepRow stepBy toldMarks markedBy answered
   marks-history n = rw status-history (go (statusOf (phaseOf r h .start)) refl)
@@ -77,7 +77,7 @@ module _ {r : Row} (words : Words r) (h : List Event) where
       go Counter e = refl
       go Broken e = refl
 
-  -- HEADLINE: all that a row is told by an event, its bits of a sample or the answer of a call, is what the phase tells of it.
+  -- All that a row is told by an event, its bits of a sample or the answer of a call, is what the phase tells of it.
   pub told-history : (e : Event) → toldOf (rowSince r h) e ≡ toldAt (phaseOf r h) e
   unfolding toldOf toldAt
   told-history (bits n) = ap (λ (m : Marks). marks m) (marks-history n)

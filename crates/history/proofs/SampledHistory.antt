@@ -40,15 +40,15 @@ module _ {r : Row} (words : Words r) (h : List Event) (live : statusOf (rowSince
   legal : Legal (actsSince r h)
   legal = phase-lawful words h .legal
 
-  -- HEADLINE: the axis of the row is the axis after the acts of its phase.
+  -- The axis of the row is the axis after the acts of its phase.
   pub axis-row : axisOf (rowSince r h) ≡ after (startAxis r h) (actsSince r h)
   axis-row = sampled-history words h first ∙ sym (whole-history (startAxis r h) start (actsSince r h) legal)
 
-  -- HEADLINE: each filtered level is that of the latest consecutive equal raw samples.
+  -- Each filtered level is that of the latest consecutive equal raw samples.
   pub level-row : (w : Wire) → line (axisOf (rowSince r h)) w .level ≡ levelAt (startAxis r h) w (actsSince r h)
   level-row w = ap (λ (x : Axis). line x w .level) axis-row ∙ level-history (startAxis r h) start (actsSince r h) legal w
 
-  -- HEADLINE: while RANGE is clear, the position is the last value given plus the sum of the entries since.
+  -- While RANGE is clear, the position is the last value given plus the sum of the entries since.
   pub position-row : axisOf (rowSince r h) .flags .range ≡ false →
       positionOf (rowSince r h .w0) ≡ placeTally (startAxis r h) (actsSince r h) .value .position +ℤ sum
       (placeTally (startAxis r h) (actsSince r h) .moves)
@@ -56,12 +56,12 @@ module _ {r : Row} (words : Words r) (h : List Event) (live : statusOf (rowSince
       ap (λ (x : Axis). positionOf (x .word)) axis-row
       ∙ position-history (startAxis r h) start (actsSince r h) legal (sym (ap (λ (x : Axis). x .flags .range) axis-row) ∙ clear)
 
-  -- HEADLINE: doubles is the smaller of 65,535 and the E entries since the last setup, restore or acknowledge.
+  -- Doubles is the smaller of 65,535 and the E entries since the last setup, restore or acknowledge.
   pub doubles-row : axisOf (rowSince r h) .doubles ≡
       min 65535 (doublesTally (startAxis r h) (actsSince r h) .value + numberOfE (doublesTally (startAxis r h) (actsSince r h) .moves))
   doubles-row = ap (λ (x : Axis). x .doubles) axis-row ∙ doubles-history (startAxis r h) start (actsSince r h) legal
 
-  -- HEADLINE: a sample's double bit is set exactly where its entry is E.
+  -- A sample's double bit is set exactly where its entry is E.
   pub double-bit-row : (n : ℕ) → stepRow (rowSince r h) n .double ≡ doubleAt (startAxis r h) (rawOf n) (actsSince r h)
   unfolding toldMarks markedBy
   double-bit-row n = ap (λ (m : Marks). m .double) (marks-history words h n) ∙ rw first
@@ -72,7 +72,7 @@ module _ {r : Row} (words : Words r) (h : List Event) (live : statusOf (rowSince
       ≡ (primedAt (startAxis r h) (actsSince r h) && bothChange (startAxis r h) (rawOf n) (actsSince r h))
   double-lines-row n = double-bit-row n ∙ double-lines (startAxis r h) (rawOf n) (actsSince r h)
 
-  -- HEADLINE: a sample's index bit is set exactly where filtered Z rose.
+  -- A sample's index bit is set exactly where filtered Z rose.
   pub index-bit-row : (n : ℕ) → stepRow (rowSince r h) n .index ≡ roseAt (startAxis r h) (rawOf n) (actsSince r h)
   unfolding toldMarks markedBy
   index-bit-row n = ap (λ (m : Marks). m .index) (marks-history words h n) ∙ rw first

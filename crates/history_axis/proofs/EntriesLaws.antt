@@ -47,7 +47,7 @@ module _ (x : Axis) (s : Raw) (h : List Act) where
   unfolding doubleAt numberOfE
   double-none e = rw e
 
-  -- HEADLINE: the double bit of a history's sample stands exactly where its entry is E.
+  -- The double bit of a history's sample stands exactly where its entry is E.
   pub double-exactly : (doubleAt x s h ≡ true) ↔ (entryAt x s h ≡ Double ∷ [])
   unfolding isE
   double-exactly = (λ d. go (primedAt x h) refl d, λ e. double-entry Double e)

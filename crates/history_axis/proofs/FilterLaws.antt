@@ -74,6 +74,6 @@ module _ (d : ℕ) (v : Bool) where
   pub line-start : (r : ℕ) → r < d → lineOf d v (replicate r (not v)) ≡ record { level = v; run = r }
   line-start r g = rw (level-start r g, streak-replicate r (not v))
 
-  -- HEADLINE: the filter at depth d makes of each line what its raw samples say.
+  -- The filter at depth d makes of each line what its raw samples say.
   pub filter-latest : 0 < d → (h : List Bool) (x : Bool) → filterLine d (lineOf d v h) x ≡ lineOf d v (x ∷ h)
   filter-latest g h x = is (x ∷ h) (filterLine d (lineOf d v h) x) (filtered-next h (lineOf d v h) x (made g h))

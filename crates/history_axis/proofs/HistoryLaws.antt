@@ -32,46 +32,46 @@ module _ (x : Axis) (start : Start x) (h : List Act) (legal : Legal h) where
   whole : after x h ≡ toldAxis x h
   whole = whole-history x start h legal
 
-  -- HEADLINE: kind, depth, width and counts per turn never change.
+  -- Kind, depth, width and counts per turn never change.
   pub configuration-history : after x h .config ≡ x .config
   unfolding toldAxis
   configuration-history = ap (λ (y : Axis). y .config) whole
 
-  -- HEADLINE: PRIMED.
+  -- PRIMED.
   pub primed-history : after x h .flags .primed ≡ primedAt x h
   unfolding toldAxis
   primed-history = ap (λ (y : Axis). y .flags .primed) whole
 
-  -- HEADLINE: each filtered level is that of the latest consecutive equal raw samples.
+  -- Each filtered level is that of the latest consecutive equal raw samples.
   pub level-history : (w : Wire) → line (after x h) w .level ≡ levelAt x w h
   level-history w = ap (λ (y : Axis). line y w .level) whole ∙ ap (λ (n : Line). n .level) (line-told x w h)
 
-  -- HEADLINE: each run is the streak of newest samples that differ from the filtered level.
+  -- Each run is the streak of newest samples that differ from the filtered level.
   pub run-history : (w : Wire) → line (after x h) w .run ≡ runAt x w h
   run-history w = ap (λ (y : Axis). line y w .run) whole ∙ ap (λ (n : Line). n .run) (line-told x w h)
 
-  -- HEADLINE: the position is the last value given and the entries since, but those that were held at the end of the range.
+  -- The position is the last value given and the entries since, but those that were held at the end of the range.
   pub position-walk : positionOf (after x h .word) ≡ walk (placeTally x h .value .position) (placeTally x h .moves)
   unfolding toldAxis
   position-walk = ap (λ (y : Axis). positionOf (y .word)) whole ∙ position-word (positionAt x h) (position-in x start h legal)
 
-  -- HEADLINE: RANGE is set where an entry was held, or as it was given.
+  -- RANGE is set where an entry was held, or as it was given.
   pub range-history :
       after x h .flags .range ≡ (placeTally x h .value .range || heldIn (placeTally x h .value .position) (placeTally x h .moves))
   unfolding toldAxis
   range-history = ap (λ (y : Axis). y .flags .range) whole
 
-  -- HEADLINE: while RANGE is clear, the position is the last value given plus the sum of the entries since.
+  -- While RANGE is clear, the position is the last value given plus the sum of the entries since.
   pub position-history : after x h .flags .range ≡ false →
       positionOf (after x h .word) ≡ placeTally x h .value .position +ℤ sum (placeTally x h .moves)
   position-history clear = position-walk ∙ walked-sum (placeTally x h) (sym range-history ∙ clear)
 
-  -- HEADLINE: doubles is the smaller of 65,535 and the E entries since the last acknowledge.
+  -- Doubles is the smaller of 65,535 and the E entries since the last acknowledge.
   pub doubles-history : after x h .doubles ≡ min 65535 (doublesTally x h .value + numberOfE (doublesTally x h .moves))
   unfolding toldAxis
   doubles-history = ap (λ (y : Axis). y .doubles) whole
 
-  -- HEADLINE: direction, age and period are those of the entries.
+  -- Direction, age and period are those of the entries.
   pub direction-history : after x h .pace .direction ≡ directionOf (x .pace) (entries x h)
   unfolding toldAxis
   direction-history = ap (λ (y : Axis). y .pace .direction) whole
@@ -84,7 +84,7 @@ module _ (x : Axis) (start : Start x) (h : List Act) (legal : Legal h) where
   unfolding toldAxis
   period-history = ap (λ (y : Axis). y .pace .period) whole
 
-  -- HEADLINE: ARMED, HOMED and INDEX.
+  -- ARMED, HOMED and INDEX.
   pub armed-history : after x h .flags .armed ≡ armedAt x h
   unfolding toldAxis
   armed-history = ap (λ (y : Axis). y .flags .armed) whole
@@ -97,12 +97,12 @@ module _ (x : Axis) (start : Start x) (h : List Act) (legal : Legal h) where
   unfolding toldAxis
   index-history = ap (λ (y : Axis). y .flags .index) whole
 
-  -- HEADLINE: a sample's double bit is set exactly where its entry is E, also where doubles no longer grows.
+  -- A sample's double bit is set exactly where its entry is E, also where doubles no longer grows.
   pub double-bit : (s : Raw) → stepAxis (after x h) s .double ≡ doubleAt x s h
   unfolding answered
   double-bit s = ap (λ (o : Stepped). o .double) (sample-history x start s h legal)
 
-  -- HEADLINE: a sample's index bit is set exactly where filtered Z rose.
+  -- A sample's index bit is set exactly where filtered Z rose.
   pub index-bit : (s : Raw) → stepAxis (after x h) s .index ≡ roseAt x s h
   unfolding answered
   index-bit s = ap (λ (o : Stepped). o .index) (sample-history x start s h legal)

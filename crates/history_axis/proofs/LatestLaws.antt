@@ -40,12 +40,12 @@ latest-same d v x h e = rw e (either (leb d (streak x (x ∷ h))))
     either true = refl
     either false = refl
 
--- HEADLINE: d samples of one level at the newest end give that level.
+-- d samples of one level at the newest end give that level.
 pub latest-window : (d : ℕ) (v w : Bool) (h : List Bool) → 0 < d → latest d v (replicate d w ++ h) ≡ w
 latest-window zero v w h g = absurd (let z : ⊥ = omega arith in z)
 latest-window (suc d) v w h g = latest-full (suc d) v w (replicate d w ++ h) (streak-window (suc d) w h)
 
--- HEADLINE: a newest sample that ends no such window is passed over.
+-- A newest sample that ends no such window is passed over.
 pub latest-pass : (d : ℕ) (v x : Bool) (h : List Bool) → streak x (x ∷ h) < d → latest d v (x ∷ h) ≡ latest d v h
 unfolding latest
 latest-pass d v x h g = ap (λ (b : Bool). cond b x (latest d v h)) (lt-leb d (streak x (x ∷ h)) g)

@@ -70,7 +70,7 @@ module _ (x : Axis) (start : Start x) where
   unfolding since
   line-first w = line-is x w [] ∙ line-start (x .config .depth) (line x w .level) (line x w .run) (start .short w)
 
-  -- HEADLINE: the filter on the axis that a history tells gives the lines that the history with that sample tells.
+  -- The filter on the axis that a history tells gives the lines that the history with that sample tells.
   pub filtered-told : (w : Wire) (s : Raw) (h : List Act) → primedAt x h ≡ true → filtered (toldAxis x h) s w ≡ lineAt x w (sampled s ∷ h)
   unfolding filtered toldAxis since
   filtered-told w s h q =

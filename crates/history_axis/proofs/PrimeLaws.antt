@@ -71,7 +71,7 @@ module _ (x : Axis) (s : Raw) (h : List Act) (q : primedAt x h ≡ false) where
     pace = paceOf (x .pace) (entries-stay i);
   }
 
-  -- HEADLINE: a sample that primes sets PRIMED and the lines, changes nothing else, and sets no bit of the answer.
+  -- A sample that primes sets PRIMED and the lines, changes nothing else, and sets no bit of the answer.
   pub primes : outcome false (toldAxis x h) s ≡ answered x s h
   unfolding outcome answered
   primes = λ i. record { axis = told-primes i; double = sym (double-none x s h (entry-none x s h q)) i; index = sym no-rise i }

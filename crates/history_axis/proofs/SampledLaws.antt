@@ -20,7 +20,7 @@ module _ (x : Axis) (s : SampledAxis x) where
   keep-act acknowledge l = acknowledge-sampled x s
 
 module _ (x : Axis) (s : SampledAxis x) where
-  -- HEADLINE: a sampled axis is a sampled axis after a history.
+  -- A sampled axis is a sampled axis after a history.
   pub keep-after : (h : List Act) → Legal h → SampledAxis (after x h)
   unfolding after
   keep-after [] l = s

@@ -100,7 +100,7 @@ module _
   unfolding lines
   lines-are = λ i w. filtered-told x start w s h q i
 
-  -- HEADLINE: a sample on a primed axis does what the history with that sample tells, and the bits of the answer are E and the index rise.
+  -- A sample on a primed axis does what the history with that sample tells, and the bits of the answer are E and the index rise.
   pub settles : outcome true (toldAxis x h) s ≡ answered x s h
   unfolding outcome answered
   settles = λ i. record {

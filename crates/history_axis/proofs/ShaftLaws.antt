@@ -151,7 +151,7 @@ module _ (x : Axis) (start : Start x) (kind : x .config .kind ≡ X4) (depth : x
       doubleAt x (rawAt t) (watched first ts) ≡ isE (expected (move ts t))
   double-watched ts t g = double-entry x (rawAt t) (watched first ts) (expected (move ts t)) (entry-watched ts t g)
 
-  -- HEADLINE: where no move is above two quarter steps, E stands at exactly the samples with two.
+  -- Where no move is above two quarter steps, E stands at exactly the samples with two.
   pub double-at-two : (ts : List ShaftSample) (t : ShaftSample) → turnedBy first ts t ≤ 2 →
       stepAxis (after x (watched first ts)) (rawAt t) .double ≡ eqb (turnedBy first ts t) 2
   unfolding turnedBy move
@@ -184,7 +184,7 @@ module _ (x : Axis) (start : Start x) (kind : x .config .kind ≡ X4) (depth : x
       (expected-worth (move ts t) (sym (double-watched ts t (g .0)) ∙ p .0))
       ∙ joined (positionAt x (watched first old)) (angleAt first old) (angleAt first ts) (t .angle)
 
-  -- HEADLINE: over any stretch of samples without E or homing, also after an earlier E, the
+  -- Over any stretch of samples without E or homing, also after an earlier E, the
   -- position moves exactly as the shaft does, where RANGE is clear.
   pub moves-as-shaft : (old new : List ShaftSample) → AtMostTwo first old new → Undisturbed x first old new →
       after x (watched first (new ++ old)) .flags .range ≡ false →

@@ -42,11 +42,11 @@ start-sampled {x} s = record {
     short B = s .runB
     short Z = s .runZ
 
--- HEADLINE: the axis of a sampled row may start a history.
+-- The axis of a sampled row may start a history.
 pub start-sound : (r : Row) → statusOf r ≡ Sampled → Start (axisOf r)
 start-sound r e = start-sampled (sampled-gives r e)
 
--- HEADLINE: the axis that a setup or a restore makes may start a history.
+-- The axis that a setup or a restore makes may start a history.
 pub start-fresh : (c : Config) (p : ℤ) → 0 < c .depth → inRange p ≡ true → Start (freshAt c (wordOf p))
 unfolding line placeOf
 start-fresh c p deep e = record {
@@ -76,11 +76,11 @@ start-told x start h l =
       age = omega arith;
     }
 
--- HEADLINE: the axis after a history may start another.
+-- The axis after a history may start another.
 pub start-after : (x : Axis) → Start x → (h : List Act) → Legal h → Start (after x h)
 start-after x start h l = rw (whole-history x start h l) (start-told x start h l)
 
--- HEADLINE: a history in two parts is the newer part from the axis after the older one.
+-- A history in two parts is the newer part from the axis after the older one.
 pub after-append : (x : Axis) (new old : List Act) → after x (new ++ old) ≡ after (after x old) new
 unfolding after
 after-append x [] old = refl

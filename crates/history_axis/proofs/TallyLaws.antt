@@ -77,6 +77,6 @@ one-clear t m e =
     (or-assoc (t .value .range) (heldIn (t .value .position) (t .moves)) (holds (walked t) m) ∙ e) in
     (n .0, rw (n .1))
 
--- HEADLINE: where RANGE is clear no entry was held, and the position is the value given plus the sum of the entries since.
+-- Where RANGE is clear no entry was held, and the position is the value given plus the sum of the entries since.
 pub walked-sum : (t : Tally Place) → ranged t ≡ false → walked t ≡ t .value .position +ℤ sum (t .moves)
 walked-sum t e = walk-sum (t .value .position) (t .moves) (neither (t .value .range) (heldIn (t .value .position) (t .moves)) e .1)

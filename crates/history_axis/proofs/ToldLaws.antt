@@ -102,12 +102,12 @@ module _ (x : Axis) (start : Start x) where
   act-told arm h l = refl
   act-told acknowledge h l = refl
 
-  -- HEADLINE: the axis after a history is, in every field, the one that the history tells.
+  -- The axis after a history is, in every field, the one that the history tells.
   pub whole-history : (h : List Act) → Legal h → after x h ≡ toldAxis x h
   unfolding after
   whole-history [] l = sym told-first
   whole-history (a ∷ h) l = ap (λ (y : Axis). act y a) (whole-history h (l .1)) ∙ act-told a h l
 
-  -- HEADLINE: so is a sample's answer.
+  -- So is a sample's answer.
   pub sample-history : (s : Raw) (h : List Act) → Legal h → stepAxis (after x h) s ≡ answered x s h
   sample-history s h l = ap (λ (y : Axis). stepAxis y s) (whole-history h l) ∙ sample-told s h l

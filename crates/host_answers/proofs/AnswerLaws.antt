@@ -27,33 +27,33 @@ bit-apart true false e = absurd (omega arith)
 bit-apart false true e = absurd (omega arith)
 bit-apart false false e = refl
 
--- HEADLINE: two calculations that look the same to C had the same answer.
+-- Two calculations that look the same to C had the same answer.
 pub answer-apart : (a b : Reckoned) → answerTo a ≡ answerTo b → a ≡ b
 unfolding answerTo
 answer-apart a b e =
     reckoned-apart a b (ap (λ (x : Answer). x .refusal) e) (ap (λ (x : Answer). x .found) e) (ap (λ (x : Answer). x .value) e)
 
--- HEADLINE: so had two speeds.
+-- So had two speeds.
 pub speed-apart : (a b : Speed) → answerSpeed a ≡ answerSpeed b → a ≡ b
 speed-apart a b e = speed-one-number a b (answer-apart (speedNumber a) (speedNumber b) e)
 
--- HEADLINE: so had two record tests.
+-- So had two record tests.
 pub test-apart : (a b : Tested) → answerTest a ≡ answerTest b → a ≡ b
 unfolding answerTest
 test-apart a b e = test-told a b (ap (λ (x : Answer). x .refusal) e) (ap (λ (x : Answer). x .found) e)
 
--- HEADLINE: so had two calls that say only that they were done.
+-- So had two calls that say only that they were done.
 pub done-apart : (a b : Done) → answerDone a ≡ answerDone b → a ≡ b
 unfolding answerDone
 done-apart a b e = done-told a b (ap (λ (x : Answer). x .refusal) e) (ap (λ (x : Answer). x .found) e)
 
--- HEADLINE: so had two saves.
+-- So had two saves.
 pub written-apart : (a b : Written) → answerWritten a ≡ answerWritten b → a ≡ b
 unfolding answerWritten
 written-apart a b e =
     save-told a b (ap (λ (x : Answer). x .refusal) e) (ap (λ (x : Answer). x .found) e) (ap (λ (x : Answer). natAbs (x .value)) e)
 
--- HEADLINE: so had two views.
+-- So had two views.
 pub view-apart : (a b : Viewed) → answerView a ≡ answerView b → a ≡ b
 unfolding answerView
 view-apart a b e =

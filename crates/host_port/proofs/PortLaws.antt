@@ -9,7 +9,7 @@ use Rattle.host_answers.proofs.ShownLaws.{one-shown}
 use Rattle.host_port.specs.declared.SampledAnswer.{SampledAnswer}
 use Rattle.host_port.specs.Port.{answerSampled, SamplesToC}
 
--- HEADLINE: two port samples that look the same to C had the same answer.
+-- Two port samples that look the same to C had the same answer.
 pub sampled-apart : (a b : Sampled) → answerSampled a ≡ answerSampled b → a ≡ b
 unfolding answerSampled
 sampled-apart a b e =

@@ -76,10 +76,10 @@ position-small w h = ⊎-elim (λ e. omega (arith, e, bal-position w)) (λ e. om
 pub position-in-range : (w : ℕ) → Word w → inRange (positionOf w) ≡ true
 position-in-range w h = range-yes (positionOf w) (position-small w h)
 
--- HEADLINE: the word of a position holds that position.
+-- The word of a position holds that position.
 pub position-word : (p : ℤ) → inRange p ≡ true → positionOf (wordOf p) ≡ p
 position-word p h = eqZ _ _ (omega (arith, bal-position (wordOf p), bal-word p h))
 
--- HEADLINE: the position of a word has that word.
+-- The position of a word has that word.
 pub word-position : (w : ℕ) → Word w → wordOf (positionOf w) ≡ w
 word-position w h = omega (arith, bal-position w, bal-word (positionOf w) (position-in-range w h))

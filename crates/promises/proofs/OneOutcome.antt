@@ -8,12 +8,12 @@ use Rattle.reckon.specs.declared.Reckoned.{Reckoned}
 use Rattle.speed.specs.Speed.{speedByCount}
 use Rattle.speed.specs.declared.Speed.{Speed}
 
--- HEADLINE: reckon::widening::widen.
+-- reckon::widening::widen.
 pub widen-one : (width : ℕ) (position : ℤ) (reading : ℕ) (r s : Reckoned) → r ≡ widened width position reading →
     s ≡ widened width position reading → r ≡ s
 widen-one width position reading r s = one
 
--- HEADLINE: speed::by_count.
+-- speed::by_count.
 pub by-count-one : (difference : ℤ) (samples rate : ℕ) (r s : Speed) → r ≡ speedByCount difference samples rate →
     s ≡ speedByCount difference samples rate → r ≡ s
 by-count-one difference samples rate r s = one

@@ -108,7 +108,7 @@ pub record Alone (t : List ℕ) (k : ℕ) (cs : List Call) : Type 0 where
   pub answers : heard k t cs ≡ tolds (rowAt t k) (events k cs)
   pub rows : rows k t cs ≡ rowsFrom (rowAt t k) (events k cs)
 
--- HEADLINE: row k of a run, all that axis k is told and the row after each of its own events are those of row k alone over k's own events.
+-- Row k of a run, all that axis k is told and the row after each of its own events are those of row k alone over k's own events.
 pub alone : (t : List ℕ) (k : ℕ) → k < axesIn (length t) → (cs : List Call) → Alone t k cs
 unfolding tableRun heard rows events rowRun tolds rowsFrom
 alone t k h [] = record { row = refl; answers = refl; rows = refl }

@@ -46,7 +46,7 @@ same-bytes : (s : Saved) (b d : List ℕ) → length b ≡ length d →
     toldBytes (savedAs (length b) s) (written b s) ≡ toldBytes (savedAs (length d) s) (written d s)
 same-bytes s b d e = bytes-are s b ∙ rw e (sym (bytes-are s d))
 
--- HEADLINE: two buffers of one size get the same bytes from a row, and the same answer.
+-- Two buffers of one size get the same bytes from a row, and the same answer.
 pub save-alike : (r : Row) (b d : List ℕ) → length b ≡ length d →
     toldBytes (saveRow (length b) r) (savedIn b r) ≡ toldBytes (saveRow (length d) r) (savedIn d r)
 unfolding saveRow savedIn

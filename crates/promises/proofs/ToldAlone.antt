@@ -21,7 +21,7 @@ unfolding tolds toldSince rowSince phaseOf
 all-told words h [] = refl
 all-told words h (e ∷ es) = ap₂ (λ (a : Told) (l : List Told). a ∷ l) (told-history words h e) (all-told words (e ∷ h) es)
 
--- HEADLINE: all that axis k is told over a run, its answers and its bits of the masks, is what the history of axis k tells.
+-- All that axis k is told over a run, its answers and its bits of the masks, is what the history of axis k tells.
 pub heard-told : (t : List ℕ) (k : ℕ) → AllWords t → k < axesIn (length t) → (cs : List Call) →
     heard k t cs ≡ toldSince (phaseOf (rowAt t k) []) (events k cs)
 unfolding rowSince

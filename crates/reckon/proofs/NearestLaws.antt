@@ -130,7 +130,7 @@ module _ (w : ℕ) (W : ℤ) (r : ℕ) (good : goodReading w W r ≡ true) where
           let y = bal-sub p (pos (2 ^ w)) in
           settled q (bits q 1 (omega arith)) (⊎-elim (λ z. omega (arith, z)) (λ z. omega (arith, z)) (far-cases q W))
 
--- HEADLINE: every answer is given for its reason, VALUE before HALF before RANGE, over every width, old position and reading.
+-- Every answer is given for its reason, VALUE before HALF before RANGE, over every width, old position and reading.
 pub verdict : (w : ℕ) (W : ℤ) (r : ℕ) → Verdict w W r (widened w W r)
 verdict w W r = go (test (goodReading w W r))
   where
@@ -138,7 +138,7 @@ verdict w W r = go (test (goodReading w W r))
     go (yes e) = good-verdict w W r e
     go (no e) = value e (unfold widened in rw e)
 
--- HEADLINE: and wherever a reason holds, its answer is given.
+-- And wherever a reason holds, its answer is given.
 pub verdict-only : (w : ℕ) (W : ℤ) (r : ℕ) (a : Reckoned) → Verdict w W r a → widened w W r ≡ a
 unfolding widened orRange
 verdict-only w W r a (value g e) = rw g (sym e)
@@ -150,12 +150,12 @@ module _ (w : ℕ) (W p : ℤ) (wide : goodWidth w ≡ true) (okW : inRange W �
   good-low : goodReading w W (modZ p (2 ^ w)) ≡ true
   good-low = good-from w W (modZ p (2 ^ w)) wide okW (modZ-lt p (pow-pos w))
 
-  -- HEADLINE: where the true position p lies in the range and less than half a turn from W, its low bits widen to it, below zero too.
+  -- Where the true position p lies in the range and less than half a turn from W, its low bits widen to it, below zero too.
   pub true-position : inRange p ≡ true → 2 * natAbs (p -ℤ W) < 2 ^ w → widened w W (modZ p (2 ^ w)) ≡ Number p
   unfolding orRange
   true-position ok near = rw ok at (near-position w W p good-low near)
 
-  -- HEADLINE: exactly half a turn is HALF, whichever way the shaft turned, near the limits of the range and beyond them too.
+  -- Exactly half a turn is HALF, whichever way the shaft turned, near the limits of the range and beyond them too.
   pub half-turn : 2 * natAbs (p -ℤ W) ≡ 2 ^ w → widened w W (modZ p (2 ^ w)) ≡ Refused Half
   half-turn = half-position w W p good-low
 
@@ -176,7 +176,7 @@ only w W z r b n y e = go (test (ltb (natAbs (z -ℤ W)) (natAbs (y -ℤ W))))
         let k = far-sub y W in
         inl (near-one (at-r y e) (at-r z b) (omega arith) (omega arith))
 
--- HEADLINE: an answer lies in the range, and is the one value nearest W with low bits r: any other is strictly farther.
+-- An answer lies in the range, and is the one value nearest W with low bits r: any other is strictly farther.
 pub nearest : (w : ℕ) (W z : ℤ) (r : ℕ) → widened w W r ≡ Number z → (inRange z ≡ true) × Nearest w W r z
 nearest w W z r h = go (verdict w W r)
   where

@@ -9,7 +9,7 @@ use Rattle.reckon.specs.declared.Reckoned.{Reckoned}
 use Rattle.reckon.specs.declared.Reckoned.the-variants.{Number, Refused}
 use Rattle.reckon.specs.Reckoned.{refusalIn, foundBy, valueIn}
 
--- HEADLINE: two answers with one refusal number, one found number and one value are one answer.
+-- Two answers with one refusal number, one found number and one value are one answer.
 pub reckoned-apart : (a b : Reckoned) → refusalIn a ≡ refusalIn b → foundBy a ≡ foundBy b → valueIn a ≡ valueIn b → a ≡ b
 reckoned-apart (Number v) (Number u) n f e = ap Number e
 reckoned-apart (Number v) (Refused d) n f e = absurd (above-zero d (sym n))

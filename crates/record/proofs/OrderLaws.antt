@@ -128,6 +128,6 @@ judges s (bad-rest n k r e) = in-order s ∙ rw (one-layout s n, n, k, r) (sym e
 judges s (bad-value n k r w e) = in-order s ∙ rw (one-layout s n, n, k, r, w) (sym e)
 judges s (all-good n k r w e) = in-order s ∙ rw (one-layout s n, n, k, r, w) (sym e)
 
--- HEADLINE: a slice is answered by a reason, or accepted, exactly when the line of the first failing check says so.
+-- A slice is answered by a reason, or accepted, exactly when the line of the first failing check says so.
 pub exactly : (s : List ℕ) (r : Read) → (readAs s ≡ r → Judged s r) × (Judged s r → readAs s ≡ r)
 exactly s r = (λ e. subst (Judged s) e (judged s), judges s)

@@ -39,19 +39,19 @@ use Rattle.record.proofs.OrderLaws.{exactly}
 use Rattle.record.proofs.RoundTrip.{passed, written-read, read-written}
 use Rattle.record.proofs.WriterLaws.{record-long}
 
--- HEADLINE: what is written within its limits is read back as it was.
+-- What is written within its limits is read back as it was.
 pub read-back : (s : Saved) → withinLimits s ≡ true → readAs (recordOf s) ≡ Accepted s
 read-back s w = written-read s w
 
--- HEADLINE: a slice of bytes that is accepted is the one record of what it says.
+-- A slice of bytes that is accepted is the one record of what it says.
 pub one-encoding : (s : List ℕ) (said : Saved) → AllBytes s → readAs s ≡ Accepted said → recordOf said ≡ s
 one-encoding s said b h = read-written s b said h
 
--- HEADLINE: two slices of bytes that are accepted and say the same are the same.
+-- Two slices of bytes that are accepted and say the same are the same.
 pub one-slice : (s t : List ℕ) (said : Saved) → AllBytes s → AllBytes t → readAs s ≡ Accepted said → readAs t ≡ Accepted said → s ≡ t
 one-slice s t said b c h k = sym (one-encoding s said b h) ∙ one-encoding t said c k
 
--- HEADLINE: every record that is written opens with the five bytes and has 34 or 27.
+-- Every record that is written opens with the five bytes and has 34 or 27.
 pub written-shape : (s : Saved) → Shaped (s .config .kind) (recordOf s)
 unfolding recordOf
 written-shape s = record { opens = refl; long = record-long s ∙ go (test (counterKind (s .config .kind))) }
@@ -60,17 +60,17 @@ written-shape s = record { opens = refl; long = record-long s ∙ go (test (coun
     go (yes k) = rw k
     go (no k) = rw k
 
--- HEADLINE: every slice of bytes that is accepted opens with the five bytes and has 34 or 27.
+-- Every slice of bytes that is accepted opens with the five bytes and has 34 or 27.
 pub accepted-shape : (s : List ℕ) (said : Saved) → AllBytes s → readAs s ≡ Accepted said → Shaped (said .config .kind) s
 accepted-shape s said b h = subst (Shaped (said .config .kind)) (one-encoding s said b h) (written-shape said)
 
--- HEADLINE: what is accepted is within its limits.
+-- What is accepted is within its limits.
 pub accepted-within : (s : List ℕ) (said : Saved) → readAs s ≡ Accepted said → withinLimits said ≡ true
 accepted-within s said h = passed s said h .limits
 
 -- ---- the test
 
--- HEADLINE: the test accepts exactly the slices that the reader accepts.
+-- The test accepts exactly the slices that the reader accepts.
 pub test-accepts : (s : List ℕ) →
     (testedAs s ≡ Passes → (said : Saved) × (readAs s ≡ Accepted said)) × ((said : Saved) → readAs s ≡ Accepted said → testedAs s ≡ Passes)
 test-accepts s = (go (readAs s), λ said h. rw h)
@@ -79,7 +79,7 @@ test-accepts s = (go (readAs s), λ said h. rw h)
     go (Accepted said) h = (said, refl)
     go (Refused r) h = let z : _≡_ {A = ℕ} 0 1 = cc in absurd (omega arith)
 
--- HEADLINE: the test refuses exactly the slices that the reader refuses, for the same reason.
+-- The test refuses exactly the slices that the reader refuses, for the same reason.
 pub test-refuses : (s : List ℕ) (q : Refusal) →
     (testedAs s ≡ Fails q → readAs s ≡ Refused q) × (readAs s ≡ Refused q → testedAs s ≡ Fails q)
 test-refuses s q = (go (readAs s), λ h. rw h)
@@ -88,7 +88,7 @@ test-refuses s q = (go (readAs s), λ h. rw h)
     go (Accepted said) h = let z : _≡_ {A = ℕ} 0 1 = cc in absurd (omega arith)
     go (Refused r) h = cc
 
--- HEADLINE: the test's numbers are the reader's.
+-- The test's numbers are the reader's.
 pub test-numbers : (s : List ℕ) → (testedNumber (testedAs s) ≡ readNumber (readAs s)) × (testedFound (testedAs s) ≡ readFound (readAs s))
 test-numbers s = go (readAs s)
   where
@@ -110,7 +110,7 @@ other-opening n rest h other = rw (le-leb 5 (length s) (omega arith)) (go (test 
     go (no e) = rw e
     go (yes e) = absurd (other (sym (number-back 2 n h) ∙ ap (λ (l : List ℕ). numberIn (take 2 (drop 3 l))) (starts-is opening s e)))
 
--- HEADLINE: a slice that opens 01 00 02 and then a number other than 1 is refused by LAYOUT with that number, by reader and test,
+-- A slice that opens 01 00 02 and then a number other than 1 is refused by LAYOUT with that number, by reader and test,
 -- whatever follows.
 pub layout-refused : (n : ℕ) (rest : List ℕ) → n < 256 ^ 2 → (n ≡ 1 → ⊥) →
     (readAs (fieldBytes layoutTag 2 n ++ rest) ≡ Refused (Layout n)) × (testedAs (fieldBytes layoutTag 2 n ++ rest) ≡ Fails (Layout n))
@@ -121,7 +121,7 @@ layout-refused n rest h other =
     let e = exactly s (Refused (Layout n)) .1 (other-layout (other-opening n rest h other) found) in
     (e, test-refuses s (Layout n) .1 e)
 
--- HEADLINE: no other slice is refused by LAYOUT, and the number is the one that stands there.
+-- No other slice is refused by LAYOUT, and the number is the one that stands there.
 pub layout-found : (s : List ℕ) (n : ℕ) → readAs s ≡ Refused (Layout n) → (otherLayout s ≡ true) × (n ≡ layoutIn s)
 layout-found s n h = go (exactly s (Refused (Layout n)) .0 h)
   where
@@ -135,13 +135,13 @@ layout-found s n h = go (exactly s (Refused (Layout n)) .0 h)
 
 -- ---- the buffer of a save
 
--- HEADLINE: where nothing is refused the record stands at the front, and every byte beyond it is as it was.
+-- Where nothing is refused the record stands at the front, and every byte beyond it is as it was.
 pub saved-front : (b : List ℕ) (s : Saved) → withinLimits s ≡ true → length (recordOf s) ≤ length b →
     written b s ≡ recordOf s ++ drop (length (recordOf s)) b
 unfolding written
 saved-front b s w h = rw (w, le-leb (length (recordOf s)) (length b) h) (sets-eq (recordOf s) b 0 (rw zero-add h) ∙ rw zero-add)
 
--- HEADLINE: a refused save leaves every byte as it was.
+-- A refused save leaves every byte as it was.
 pub refused-kept : (b : List ℕ) (s : Saved) (r : Refusal) → savedAs (length b) s ≡ Unwritten r → written b s ≡ b
 unfolding savedAs written
 refused-kept b s r h = go (test (withinLimits s)) (test (leb (length (recordOf s)) (length b)))
@@ -154,15 +154,15 @@ refused-kept b s r h = go (test (withinLimits s)) (test (leb (length (recordOf s
 
 -- ---- one outcome
 
--- HEADLINE: reading a slice has one outcome.
+-- Reading a slice has one outcome.
 pub read-one : (s : List ℕ) (q r : Read) → q ≡ readAs s → r ≡ readAs s → q ≡ r
 read-one s q r = one
 
--- HEADLINE: testing a slice has one outcome.
+-- Testing a slice has one outcome.
 pub test-one : (s : List ℕ) (q r : Tested) → q ≡ testedAs s → r ≡ testedAs s → q ≡ r
 test-one s q r = one
 
--- HEADLINE: saving into a buffer has one outcome, answer and buffer.
+-- Saving into a buffer has one outcome, answer and buffer.
 pub save-one : (b : List ℕ) (s : Saved) (q r : Written) (c d : List ℕ) → SavedInto b s q c → SavedInto b s r d → (q ≡ r) × (c ≡ d)
 save-one b s q r c d h k = (one (h .0) (k .0), one (h .1) (k .1))
 
@@ -171,7 +171,7 @@ save-one b s q r c d h k = (one (h .0) (k .0), one (h .1) (k .1))
 abbrev pub x4 : Saved
 x4 = record { config = record { kind = X4; depth = 3; width = 0; turn = 4096 }; position = negsuc 1 }
 
--- HEADLINE: x4, depth 3, 4096 counts per turn, position -2, byte for byte.
+-- x4, depth 3, 4096 counts per turn, position -2, byte for byte.
 pub x4-record :
     recordOf x4
     ≡ 1 ∷ 0 ∷ 2 ∷ 0 ∷ 1 ∷ 2 ∷ 0 ∷ 1 ∷ 4 ∷ 3 ∷ 0 ∷ 8 ∷ 255 ∷ 255 ∷ 255 ∷ 255 ∷ 255 ∷ 255 ∷ 255 ∷ 254
@@ -179,7 +179,7 @@ pub x4-record :
 unfolding recordOf axisBytes frontBytes settingBytes fieldBytes bytesOf
 x4-record = refl
 
--- HEADLINE: a buffer of 33 bytes has no room for it.
+-- A buffer of 33 bytes has no room for it.
 pub x4-room : savedAs 33 x4 ≡ Unwritten Room
 unfolding savedAs withinLimits goodConfig inRange recordOf axisBytes frontBytes settingBytes fieldBytes bytesOf
 x4-room = refl

@@ -41,7 +41,7 @@ on-field s at tag n r k = go (standsAt s at tag n)
     go true = refl
     go false = refl
 
--- HEADLINE: an axis's fields are 19 bytes for a counter, else 26.
+-- An axis's fields are 19 bytes for a counter, else 26.
 pub axis-long : (s : Saved) → length (axisBytes s) ≡ axisLength (s .config .kind)
 unfolding axisBytes frontBytes settingBytes fieldBytes bytesOf
 axis-long s = go (test (counterKind (s .config .kind)))
@@ -101,16 +101,16 @@ module _ (s : List ℕ) (x : Saved) (at : ℕ) (w : withinLimits x ≡ true) (re
       let place : at + 3 + 1 + 3 + 8 + 3 + 1 + 3 + 4 ≡ next = omega arith in
       rw (f .0, sk, f .1, k .other, u .0, y .0, place) (ap (λ (z : Config). Said z bits next) (same c refl v refl))
 
-  -- HEADLINE: an axis's fields that were written at a place are read there, and the next field begins behind them.
+  -- An axis's fields that were written at a place are read there, and the next field begins behind them.
   pub axis-back : axisAt s at ≡ Said c bits next
   axis-back = by (within-config x w)
 
--- HEADLINE: so they are read between any bytes before and any bytes after.
+-- So they are read between any bytes before and any bytes after.
 pub axis-between : (pre post : List ℕ) (s : Saved) → withinLimits s ≡ true →
     axisAt (pre ++ (axisBytes s ++ post)) (length pre) ≡ Said (s .config) (ofZ w64 (s .position)) (length pre + length (axisBytes s))
 axis-between pre post s w = axis-back (pre ++ (axisBytes s ++ post)) s (length pre) w post (drop-append-seam pre (axisBytes s ++ post))
 
--- HEADLINE: what is read there says what was written.
+-- What is read there says what was written.
 pub said-back : (s : Saved) → withinLimits s ≡ true → saying (s .config) (ofZ w64 (s .position)) ≡ s
 said-back s w = rw (toZ-ofZ {w = w64} (within-position s w))
 
@@ -155,7 +155,7 @@ module _ (s : List ℕ) (b : AllBytes s) (at kind bits : ℕ) (c : Config) (said
         stands = rw (← e, ← n, k) (both ∙ sym (append-assoc depth turn (drop (at + 3 + 1 + 3 + 4) s)));
       }
 
--- HEADLINE: an axis's fields that were read at a place are those that would be written there.
+-- An axis's fields that were read at a place are those that would be written there.
 pub axis-again : (s : List ℕ) (at : ℕ) (c : Config) (bits next : ℕ) → AllBytes s → axisAt s at ≡ Said c bits next →
     drop at s ≡ axisBytes (saying c bits) ++ drop next s
 unfolding axisAt axisBytes frontBytes

@@ -33,20 +33,20 @@ again Room = (refl, refl)
 again (Layout n) = (refl, refl)
 again Record = (refl, refl)
 
--- HEADLINE: no reason has the number 0, which stands for done.
+-- No reason has the number 0, which stands for done.
 pub above-zero : (r : Refusal) → numberOf r ≡ 0 → ⊥
 unfolding reason
 above-zero r z = let e : Length ≡ r = rw z at (again r .0) in omega (arith, ap numberOf e)
 
--- HEADLINE: two reasons with one number and one found value are one reason.
+-- Two reasons with one number and one found value are one reason.
 pub told-apart : (r s : Refusal) → numberOf r ≡ numberOf s → foundIn r ≡ foundIn s → r ≡ s
 told-apart r s n f = sym (again r .0) ∙ rw (n, f) (again s .0)
 
--- HEADLINE: every reason has its place in the order in which they are checked, and no other has it.
+-- Every reason has its place in the order in which they are checked, and no other has it.
 pub in-place : (r : Refusal) → numberOf (getD checked (placeIn checked (numberOf r)) Length) ≡ numberOf r
 in-place r = again r .1
 
--- HEADLINE: that order is the one of the paper's table, line by line.
+-- That order is the one of the paper's table, line by line.
 pub in-table : map numberOf checked ≡ 1 ∷ 2 ∷ 3 ∷ 4 ∷ 5 ∷ 6 ∷ 7 ∷ 8 ∷ 9 ∷ 10 ∷ 11 ∷ 12 ∷ []
 in-table = refl
 

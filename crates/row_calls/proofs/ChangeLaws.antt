@@ -122,7 +122,7 @@ sampled-only change keeps r q e =
     (λ h. absurd (kept-not q KIND (h .1)))
     (live Kept (To (rowOf (change (axisOf r)))) (Kept KIND) (To q) (kept-not q) (statusOf r) e)
 
--- HEADLINE: a preset that is accepted leaves the row what it was, holding the axis with that position.
+-- A preset that is accepted leaves the row what it was, holding the axis with that position.
 pub preset-keeps : (p : ℤ) (r q : Row) → presetRow p r ≡ To q → Holds q (statusOf r) (presetAxis p (axisOf r))
 unfolding presetRow
 preset-keeps p r q e =
@@ -133,12 +133,12 @@ preset-keeps p r q e =
     rw (h .0) (to-one (t .1) (counter-holds (presetAxis p (axisOf r)) (preset-counter (axisOf r) p (t .0) (counter-gives r (h .0))))))
     (live Kept (placeRow p r) (placeRow p r) (To q) (kept-not q) (statusOf r) e)
 
--- HEADLINE: an arm that is accepted leaves the row sampled, holding the armed axis.
+-- An arm that is accepted leaves the row sampled, holding the armed axis.
 pub arm-keeps : (r q : Row) → armRow r ≡ To q → Holds q (statusOf r) (armAxis (axisOf r))
 unfolding armRow
 arm-keeps = sampled-only armAxis arm-sampled
 
--- HEADLINE: an acknowledgement that is accepted leaves the row sampled, holding the acknowledged axis.
+-- An acknowledgement that is accepted leaves the row sampled, holding the acknowledged axis.
 pub acknowledge-keeps : (r q : Row) → acknowledgeRow r ≡ To q → Holds q (statusOf r) (acknowledgeAxis (axisOf r))
 unfolding acknowledgeRow
 acknowledge-keeps = sampled-only acknowledgeAxis acknowledge-sampled

@@ -119,34 +119,34 @@ place-past p r = after-either checked changedNumber KIND (inRange p) _ _ (inl re
 -- ---- each call: BROKEN exactly on a broken row, EMPTY exactly on an empty one, and KIND exactly on one of the kind that the call does not
 -- take
 
--- HEADLINE: preset takes both kinds.
+-- Preset takes both kinds.
 pub preset-reasons : (p : ℤ) (r : Row) → StatusReasons (changedNumber (presetRow p r)) (statusOf r) ⊥
 unfolding presetRow
 preset-reasons p r = both-kinds changedNumber Kept (λ e. refl) (placeRow p r) (placeRow p r) (place-past p r) (place-past p r) (statusOf r)
 
--- HEADLINE: arm takes sampled rows.
+-- Arm takes sampled rows.
 pub arm-reasons : (r : Row) → StatusReasons (changedNumber (armRow r)) (statusOf r) (statusOf r ≡ Counter)
 unfolding armRow Past
 arm-reasons r = sampled-only changedNumber Kept (λ e. refl) (To (rowOf (armAxis (axisOf r)))) (inl refl) (statusOf r)
 
--- HEADLINE: acknowledge takes sampled rows.
+-- Acknowledge takes sampled rows.
 pub acknowledge-reasons : (r : Row) → StatusReasons (changedNumber (acknowledgeRow r)) (statusOf r) (statusOf r ≡ Counter)
 unfolding acknowledgeRow Past
 acknowledge-reasons r = sampled-only changedNumber Kept (λ e. refl) (To (rowOf (acknowledgeAxis (axisOf r)))) (inl refl) (statusOf r)
 
 -- ---- what each call does on the rows that it takes
 
--- HEADLINE: on a sampled row and on a counter a preset within the range is accepted, and any other is VALUE.
+-- On a sampled row and on a counter a preset within the range is accepted, and any other is VALUE.
 pub preset-is : (p : ℤ) (r : Row) → Live r → presetRow p r ≡ cond (inRange p) (To (rowOf (presetAxis p (axisOf r)))) (Kept VALUE)
 unfolding presetRow placeRow
 preset-is p r l = either-kind Kept (placeRow p r) r l
 
--- HEADLINE: on a sampled row arm is accepted.
+-- On a sampled row arm is accepted.
 pub arm-is : (r : Row) → statusOf r ≡ Sampled → armRow r ≡ To (rowOf (armAxis (axisOf r)))
 unfolding armRow
 arm-is r e = rw e
 
--- HEADLINE: on a sampled row acknowledge is accepted.
+-- On a sampled row acknowledge is accepted.
 pub acknowledge-is : (r : Row) → statusOf r ≡ Sampled → acknowledgeRow r ≡ To (rowOf (acknowledgeAxis (axisOf r)))
 unfolding acknowledgeRow
 acknowledge-is r e = rw e

@@ -51,7 +51,7 @@ config-holds c w good word =
       words = held-words (freshAt c w) h (omega arith) (omega (arith, limits (c .kind) (c .depth) (c .width) (c .turn) good .turn));
     }
 
--- HEADLINE: a setup that is accepted makes a sampled row or a counter, by its kind, with the configuration, position 0 and all else 0.
+-- A setup that is accepted makes a sampled row or a counter, by its kind, with the configuration, position 0 and all else 0.
 pub setup-makes : (k d v n : ℕ) (r q : Row) → setupRow k d v n r ≡ To q →
     Holds q (cond (sampledKind k) Sampled Counter) (fresh (configOf k d v n))
 unfolding setupRow
@@ -61,7 +61,7 @@ setup-makes k d v n r q e = go (test (goodConfig k d v n))
     go (yes g) = to-one (rw g at e) (config-holds (configOf k d v n) (2 ^ 62) g origin-holds)
     go (no g) = absurd (kept-not q VALUE (rw g at e))
 
--- HEADLINE: a setup is refused exactly where its numbers are no configuration, and then by VALUE.
+-- A setup is refused exactly where its numbers are no configuration, and then by VALUE.
 pub setup-refused : (k d v n : ℕ) (r : Row) → (setupRow k d v n r ≡ Kept VALUE) ↔ (goodConfig k d v n ≡ false)
 unfolding setupRow
 setup-refused k d v n r = (λ e. go (test (goodConfig k d v n)) e, λ g. rw g)
@@ -70,7 +70,7 @@ setup-refused k d v n r = (λ e. go (test (goodConfig k d v n)) e, λ g. rw g)
     go (yes g) e = absurd (kept-not (rowOf (fresh (configOf k d v n))) VALUE (sym (rw g at e)))
     go (no g) e = g
 
--- HEADLINE: erase makes an empty row of any row, four zero words.
+-- Erase makes an empty row of any row, four zero words.
 pub erase-makes : (r : Row) → (eraseRow r ≡ To emptyRow) × Holds emptyRow Empty blank
 unfolding eraseRow
 erase-makes r = (

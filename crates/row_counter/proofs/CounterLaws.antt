@@ -73,19 +73,19 @@ module _ (r : Row) (counter : statusOf r ≡ Counter) where
   newest-in-range still = position-in-range (axisOf r .word) (counter-gives r counter .word)
   newest-in-range (polled p ps ok near g) = ok
 
-  -- HEADLINE: after readings of a shaft that moves gently, the row is a counter as setup leaves it, at the shaft's position.
+  -- After readings of a shaft that moves gently, the row is a counter as setup leaves it, at the shaft's position.
   pub counter-follows : {ps : List ℤ} → UnderHalf bits start ps → CounterAt bits (newest start ps) (rowRead bits r ps)
   unfolding rowRead
   counter-follows still = at-start r counter
   counter-follows (polled p ps ok near g) =
       one-row bits (newest start ps) (rowRead bits r ps) (counter-follows g) (newest-in-range g) p ok near
 
-  -- HEADLINE: so its position is the true one after each reading.
+  -- So its position is the true one after each reading.
   pub counter-position : {ps : List ℤ} → UnderHalf bits start ps → positionOf (axisOf (rowRead bits r ps) .word) ≡ newest start ps
   counter-position {ps} g =
       ap (λ (a : Axis). positionOf (a .word)) (counter-follows g .axis) ∙ position-word (newest start ps) (newest-in-range g)
 
-  -- HEADLINE: and each reading is accepted and answers the true position.
+  -- And each reading is accepted and answers the true position.
   pub counter-answers : {p : ℤ} {ps : List ℤ} → UnderHalf bits start (p ∷ ps) → readingRow (lowBits bits p) (rowRead bits r ps) ≡ Number p
   counter-answers (polled p ps ok near g) =
       one-answer bits (newest start ps) (rowRead bits r ps) (counter-follows g) (newest-in-range g) p ok near

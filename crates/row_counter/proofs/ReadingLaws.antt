@@ -43,14 +43,14 @@ reading-past w W x = go (verdict w W x)
     go (range g p b l i e) = rw e (inr (lit< tt))
     go (at g p b l i e) = rw e (inl refl)
 
--- HEADLINE: a reading takes counters.
+-- A reading takes counters.
 pub reading-reasons : (x : ℕ) (r : Row) → StatusReasons (refusalIn (readingRow x r)) (statusOf r) (statusOf r ≡ Sampled)
 unfolding readingRow
 reading-reasons x r =
     let a = axisOf r in
     counters-only refusalIn Refused (λ e. refl) (readingOf x a) (reading-past (a .config .width) (positionOf (a .word)) x) (statusOf r)
 
--- HEADLINE: on a counter a reading is widened from the counter's width and position, with the refusals of that call.
+-- On a counter a reading is widened from the counter's width and position, with the refusals of that call.
 pub reading-is : (x : ℕ) (r : Row) → statusOf r ≡ Counter →
     readingRow x r ≡ widened (axisOf r .config .width) (positionOf (axisOf r .word)) x
 unfolding readingRow
@@ -88,7 +88,7 @@ read-at x p k = ap (readAxis p) (k .rest)
 pub read-kept : (x : Axis) (p : ℤ) → inRange p ≡ true → CounterAxis x → CounterAxis (readAxis p x)
 read-kept x p i k = counter-moved x (wordOf p) (word-holds p i) k (readAxis p x) (read-at x p k)
 
--- HEADLINE: a reading that is accepted stores the position that it answers, and leaves a counter row a counter.
+-- A reading that is accepted stores the position that it answers, and leaves a counter row a counter.
 pub read-keeps : (x : ℕ) (r q : Row) → readRow x r ≡ To q →
     (p : ℤ) × (readingRow x r ≡ Number p) × Holds q (statusOf r) (readAxis p (axisOf r))
 unfolding readRow storedRow

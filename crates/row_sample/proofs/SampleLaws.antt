@@ -30,33 +30,33 @@ module _ (r : Row) (nibble : ℕ) where
   pub sampled-after : statusOf r ≡ Sampled → SampledAxis (stepAxis (axisOf r) (rawOf nibble) .axis)
   sampled-after e = keep-step (axisOf r) (rawOf nibble) (sampled-gives r e)
 
-  -- HEADLINE: a sampled row steps as its axis does.
+  -- A sampled row steps as its axis does.
   pub row-steps : statusOf r ≡ Sampled → stepRow r nibble ≡ packed (stepAxis (axisOf r) (rawOf nibble))
   unfolding stepBy
   row-steps e = step-is Sampled e
 
-  -- HEADLINE: the axis of a sampled row after a sample is the axis after that sample.
+  -- The axis of a sampled row after a sample is the axis after that sample.
   pub axis-after : statusOf r ≡ Sampled → axisOf (stepRow r nibble .row) ≡ stepAxis (axisOf r) (rawOf nibble) .axis
   axis-after e =
       ap (λ (t : SteppedRow). axisOf (t .row)) (row-steps e)
       ∙ comes-back (stepAxis (axisOf r) (rawOf nibble) .axis) (sampled-held (sampled-after e))
 
-  -- HEADLINE: an empty row keeps every word, and sets no bit.
+  -- An empty row keeps every word, and sets no bit.
   pub empty-stays : statusOf r ≡ Empty → stepRow r nibble ≡ kept r false
   unfolding stepBy
   empty-stays e = step-is Empty e
 
-  -- HEADLINE: so does a counter row.
+  -- So does a counter row.
   pub counter-stays : statusOf r ≡ Counter → stepRow r nibble ≡ kept r false
   unfolding stepBy
   counter-stays e = step-is Counter e
 
-  -- HEADLINE: a broken row keeps every word, and sets its bit alone.
+  -- A broken row keeps every word, and sets its bit alone.
   pub broken-stays : statusOf r ≡ Broken → stepRow r nibble ≡ kept r true
   unfolding stepBy
   broken-stays e = step-is Broken e
 
-  -- HEADLINE: a row is after a sample what it was before: empty, sampled, counter or broken.
+  -- A row is after a sample what it was before: empty, sampled, counter or broken.
   pub status-after : statusOf (stepRow r nibble .row) ≡ statusOf r
   status-after = go (statusOf r) refl
     where
@@ -66,7 +66,7 @@ module _ (r : Row) (nibble : ℕ) where
       go Counter e = ap (λ (t : SteppedRow). statusOf (t .row)) (counter-stays e)
       go Broken e = ap (λ (t : SteppedRow). statusOf (t .row)) (broken-stays e)
 
-  -- HEADLINE: four words of 64 bits stay four words of 64 bits.
+  -- Four words of 64 bits stay four words of 64 bits.
   pub words-after : Words r → Words (stepRow r nibble .row)
   words-after h = go (statusOf r) refl
     where
@@ -100,7 +100,7 @@ low-bits m n e =
     let a : fieldOf 0 1 m ≡ fieldOf 0 1 n = omega arith in
     λ i. record { a = eqb (a i) 1; b = eqb (b i) 1; z = eqb (z i) 1 }
 
--- HEADLINE: the fourth bit is not read: samples that agree on the other three do the same to any row.
+-- The fourth bit is not read: samples that agree on the other three do the same to any row.
 pub fourth-unread : (r : Row) (m n : ℕ) → fieldOf 0 3 m ≡ fieldOf 0 3 n → stepRow r m ≡ stepRow r n
 unfolding stepRow stepBy
 fourth-unread r m n e = go (statusOf r)

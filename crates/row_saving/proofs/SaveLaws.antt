@@ -55,19 +55,19 @@ said-holds said e =
     let p = within-parts said e in
     config-holds (said .config) (wordOf (said .position)) (p .0) (word-holds (said .position) (p .1))
 
--- HEADLINE: a restore is refused where the record is, for the same reason.
+-- A restore is refused where the record is, for the same reason.
 pub restore-refused : (s : List ℕ) (e : Refusal) (r : Row) → readAs s ≡ Unread e → restoreRow s r ≡ Kept e
 unfolding restoreRow restoredBy
 restore-refused s e r h = rw h
 
--- HEADLINE: a restore that is accepted makes a sampled row or a counter, by its kind, with the configuration and the position that the
+-- A restore that is accepted makes a sampled row or a counter, by its kind, with the configuration and the position that the
 -- record says.
 pub restore-makes : (s : List ℕ) (said : Saved) (r q : Row) → readAs s ≡ Accepted said → restoreRow s r ≡ To q →
     Holds q (cond (sampledKind (said .config .kind)) Sampled Counter) (freshAt (said .config) (wordOf (said .position)))
 unfolding restoreRow restoredBy
 restore-makes s said r q a e = to-one (rw a at e) (said-holds said (accepted-within s said a))
 
--- HEADLINE: a restore that is accepted is a setup with the record's configuration and then a preset to its position, whatever the row held.
+-- A restore that is accepted is a setup with the record's configuration and then a preset to its position, whatever the row held.
 pub restore-is : (s : List ℕ) (said : Saved) (r : Row) → readAs s ≡ Accepted said →
     restoreRow s r ≡ andThen (setupRow (said .config .kind) (said .config .depth) (said .config .width) (said .config .turn) r)
     (presetRow (said .position))
@@ -110,12 +110,12 @@ abbrev bytes : Row → List ℕ
 bytes r = recordOf (savedOf (axisOf r))
 
 module _ (r : Row) (l : Live r) where
-  -- HEADLINE: a save of a sampled row or a counter answers the length of its record, or ROOM where the buffer is shorter; never VALUE.
+  -- A save of a sampled row or a counter answers the length of its record, or ROOM where the buffer is shorter; never VALUE.
   pub save-answers : (room : ℕ) → saveRow room r ≡ cond (leb (length (bytes r)) room) (Bytes (length (bytes r))) (Unwritten ROOM)
   unfolding saveRow savedAs
   save-answers room = either-kind Unwritten (savedAs room (savedOf (axisOf r))) r l ∙ rw (saved-within r l)
 
-  -- HEADLINE: it writes that record at the front of the buffer and leaves the rest as it was.
+  -- It writes that record at the front of the buffer and leaves the rest as it was.
   pub save-front : (b : List ℕ) → length (bytes r) ≤ length b → savedIn b r ≡ bytes r ++ drop (length (bytes r)) b
   unfolding savedIn
   save-front b h =
@@ -140,7 +140,7 @@ saved-length room n r l e = go (test (leb (length (bytes r)) room)) (sym (save-a
         (d, omega (arith, leb-true (length (bytes r)) room h))
     go (no h) k = let m : Unwritten ROOM ≡ Bytes n = rw h at k in absurd (let z : _≡_ {A = ℕ} 0 1 = cc in omega arith)
 
--- HEADLINE: a restore of what a save wrote makes, of any row, the row with the saved configuration and position and all else 0.
+-- A restore of what a save wrote makes, of any row, the row with the saved configuration and position and all else 0.
 pub restored-save : (b : List ℕ) (n : ℕ) (r q : Row) → saveRow (length b) r ≡ Bytes n →
     restoreRow (take n (savedIn b r)) q ≡ To (rowOf (freshAt (axisOf r .config) (axisOf r .word)))
 unfolding restoreRow restoredBy
@@ -152,7 +152,7 @@ restored-save b n r q e =
     rw (save-front r l b (rw (k .0) (k .1)), ← k .0) (take-append-seam (bytes r) (drop (length (bytes r)) b)) in
     rw (front, read-back (savedOf a) (saved-within r l), word-position (a .word) (live-position r l))
 
--- HEADLINE: a counter that was saved is restored as it was, all four words.
+-- A counter that was saved is restored as it was, all four words.
 pub restored-counter : (b : List ℕ) (n : ℕ) (r q : Row) → Words r → statusOf r ≡ Counter → saveRow (length b) r ≡ Bytes n →
     restoreRow (take n (savedIn b r)) q ≡ To r
 restored-counter b n r q w c e =
@@ -164,7 +164,7 @@ restored-counter b n r q w c e =
     not-broken : Counter ≡ Broken → ⊥
     not-broken h = let z : _≡_ {A = ℕ} 0 1 = cc in omega arith
 
--- HEADLINE: a save after a restore that was accepted writes the same bytes, into any buffer that has room for them.
+-- A save after a restore that was accepted writes the same bytes, into any buffer that has room for them.
 pub saved-restore : (s b : List ℕ) (r q : Row) → AllBytes s → restoreRow s r ≡ To q → length s ≤ length b →
     (saveRow (length b) q ≡ Bytes (length s)) × (savedIn b q ≡ s ++ drop (length s) b)
 saved-restore s b r q all e room = go (readAs s) refl
@@ -188,7 +188,7 @@ save-past room s =
     let fitted = after-either checked writtenNumber KIND (leb size room) (Bytes size) (Unwritten ROOM) (inl refl) (inr (lit< tt)) in
     after-either checked writtenNumber KIND (withinLimits s) _ _ fitted (inr (lit< tt))
 
--- HEADLINE: save takes both kinds.
+-- Save takes both kinds.
 pub save-reasons : (room : ℕ) (r : Row) → StatusReasons (writtenNumber (saveRow room r)) (statusOf r) ⊥
 unfolding saveRow
 save-reasons room r =

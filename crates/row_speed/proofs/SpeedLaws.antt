@@ -51,17 +51,17 @@ module _ (rate : ℕ) (r : Row) (sampled : statusOf r ≡ Sampled) where
   abbrev pace : Pace
   pace = axisOf r .pace
 
-  -- HEADLINE: on a sampled row a rate outside its limits is VALUE, whatever the period.
+  -- On a sampled row a rate outside its limits is VALUE, whatever the period.
   pub speed-value : goodRate rate ≡ false → speedRow rate r ≡ Refused VALUE
   unfolding speedRow speedOf
   speed-value h = rw (sampled, h)
 
-  -- HEADLINE: within them a period of 0 is NO PERIOD.
+  -- Within them a period of 0 is NO PERIOD.
   pub speed-still : goodRate rate ≡ true → pace .period ≡ 0 → speedRow rate r ≡ Refused NO-PERIOD
   unfolding speedRow speedOf
   speed-still h z = rw (sampled, h, eq-eqb (pace .period) 0 z)
 
-  -- HEADLINE: any other period gives a speed: the direction's sign times 1000 F over the larger of period and age, to the nearest.
+  -- Any other period gives a speed: the direction's sign times 1000 F over the larger of period and age, to the nearest.
   pub speed-moving : goodRate rate ≡ true → 0 < pace .period →
       speedRow rate r ≡ Of (rounded (signOf (pace .direction) *ℤ pos (1000 * rate)) (spanOf pace))
   unfolding speedRow speedOf speedByCount goodSpeed
@@ -69,7 +69,7 @@ module _ (rate : ℕ) (r : Row) (sampled : statusOf r ≡ Sampled) where
       let some = ne-eqb (pace .period) 0 (λ z. let idle : ⊥ = omega arith in idle) in
       rw (sampled, h, some, sign-good (pace .direction), span-good (sampled-gives r sampled .pace) p)
 
-  -- HEADLINE: and then the direction is forward, 1, or back, 2.
+  -- And then the direction is forward, 1, or back, 2.
   pub speed-direction : 0 < pace .period → (pace .direction ≡ 1) ⊎ (pace .direction ≡ 2)
   speed-direction p =
       let s = sampled-gives r sampled .pace in
@@ -94,7 +94,7 @@ speed-past rate p = go (test (goodRate rate)) (test (eqb (p .period) 0))
     go (yes g) (yes z) = rw (g, z) (inr (lit< tt))
     go (yes g) (no z) = rw (g, z) (count-past (signOf (p .direction)) (spanOf p) rate)
 
--- HEADLINE: speed by period takes sampled rows.
+-- Speed by period takes sampled rows.
 pub speed-reasons : (rate : ℕ) (r : Row) → StatusReasons (speedRefusal (speedRow rate r)) (statusOf r) (statusOf r ≡ Counter)
 unfolding speedRow
 speed-reasons rate r =
@@ -119,7 +119,7 @@ speed-from rate r v e =
     go (yes g) (yes z) h = absurd (unsped-not v NO-PERIOD (rw (g, z) at h))
     go (yes g) (no z) h = rw (g, z) at h
 
--- HEADLINE: with T the larger of period and age, twice |v T - 1000 F| is at most T, F with the direction's sign.
+-- With T the larger of period and age, twice |v T - 1000 F| is at most T, F with the direction's sign.
 pub speed-bound : (rate : ℕ) (r : Row) (v : ℤ) → speedRow rate r ≡ Of v →
     2 * natAbs ((v *ℤ pos (spanOf (axisOf r .pace))) -ℤ (signOf (axisOf r .pace .direction) *ℤ pos (1000 * rate))) ≤ spanOf (axisOf r .pace)
 speed-bound rate r v e = speed-near (signOf (axisOf r .pace .direction)) (spanOf (axisOf r .pace)) rate v (speed-from rate r v e .1)

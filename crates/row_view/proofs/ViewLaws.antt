@@ -15,22 +15,22 @@ use Rattle.row_view.specs.View.{viewOf, viewRow, viewNumber, viewFound, 
 use Rattle.row_view.specs.declared.answer.Viewed.{Viewed}
 use Rattle.row_view.specs.declared.answer.Viewed.the-variants.{Shows, Refused as Unseen}
 
--- HEADLINE: view takes both kinds.
+-- View takes both kinds.
 pub view-reasons : (r : Row) → StatusReasons (viewNumber (viewRow r)) (statusOf r) ⊥
 unfolding viewRow Past
 view-reasons r = let v = Shows (viewOf (axisOf r)) in both-kinds viewNumber Unseen (λ e. refl) v v (inl refl) (inl refl) (statusOf r)
 
--- HEADLINE: on a sampled row and on a counter a view shows the axis.
+-- On a sampled row and on a counter a view shows the axis.
 pub view-is : (r : Row) → Live r → viewRow r ≡ Shows (viewOf (axisOf r))
 unfolding viewRow
 view-is r l = either-kind Unseen (Shows (viewOf (axisOf r))) r l
 
--- HEADLINE: of a counter that is its kind and its position, and flags and doubles 0.
+-- Of a counter that is its kind and its position, and flags and doubles 0.
 pub view-counter : (r : Row) → statusOf r ≡ Counter →
     viewRow r ≡ Shows (viewOf (freshAt (counterOf (axisOf r .config .width)) (axisOf r .word)))
 view-counter r e = view-is r (inr e) ∙ ap (λ (a : Axis). Shows (viewOf a)) (counter-gives r e .rest)
 
--- HEADLINE: two answers of a view with one number, one found number and one view are one answer.
+-- Two answers of a view with one number, one found number and one view are one answer.
 pub view-told : (a b : Viewed) → viewNumber a ≡ viewNumber b → viewFound a ≡ viewFound b → viewValue a ≡ viewValue b → a ≡ b
 view-told (Shows u) (Shows v) n f e = ap Shows e
 view-told (Shows u) (Unseen d) n f e = absurd (above-zero d (sym n))

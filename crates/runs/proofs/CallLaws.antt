@@ -43,7 +43,7 @@ unfolding storedRow
 unread-stays r (Unreckoned x) e q = refl
 unread-stays r (Number z) e q = absurd (let z : _≡_ {A = ℕ} 0 1 = cc in omega arith)
 
--- HEADLINE: a call that is refused changes nothing.
+-- A call that is refused changes nothing.
 pub refused-after : (r : Row) (o : Op) (e : Refusal) → RefusedFor r o e → rowAfter r o ≡ r
 unfolding rowAfter ruleOf answerOf readRow
 refused-after r (changes c) e q = undone-stays r (changeRow c r) e q
@@ -53,7 +53,7 @@ refused-after r (looks l) e q = refl
 
 -- ---- the table
 
--- HEADLINE: a table is as long after a call as before it.
+-- A table is as long after a call as before it.
 pub next-length : (t : List ℕ) (c : Call) → length (tableNext t c) ≡ length t
 unfolding tableNext tableBy
 next-length t (port word) = sample-length t word
@@ -65,7 +65,7 @@ unfolding tableRun
 run-length t [] = refl
 run-length t (c ∷ cs) = run-length (tableNext t c) cs ∙ next-length t c
 
--- HEADLINE: a call leaves every row that it does not name.
+-- A call leaves every row that it does not name.
 pub other-row : (t : List ℕ) (j k : ℕ) (o : Op) → k ≢ j → rowAt (tableBy t j o) k ≡ rowAt t k
 unfolding tableBy
 other-row t j k o h = makes-spares (ruleOf o) {t = t} {k = j} (record { answer = refl; table = refl }) .rows k h
@@ -83,12 +83,12 @@ module _ (t : List ℕ) (k : ℕ) (h : k < axesIn (length t)) where
       go (Kept e) = refl
       go (To s) = row-same t k s (omega (arith, axes-fit (length t)))
 
-  -- HEADLINE: the named row after a call.
+  -- The named row after a call.
   pub named-row : (o : Op) → rowAt (tableBy t k o) k ≡ rowAfter (rowAt t k) o
   unfolding tableBy rowAfter
   named-row o = by-rule (ruleOf o)
 
-  -- HEADLINE: what it tells.
+  -- What it tells.
   pub named-answer : (o : Op) → answerIn t k o ≡ answerOf o (rowAt t k)
   unfolding answerIn
   named-answer o = rw (← (found-at t k h))
@@ -108,7 +108,7 @@ pub heard-named : (t : List ℕ) (k : ℕ) (o : Op) → heardOf k t (names k o) 
 unfolding heardOf
 heard-named t k o = rw (eq-eqb k k refl)
 
--- HEADLINE: a call that only looks leaves the table.
+-- A call that only looks leaves the table.
 pub look-keeps : (t : List ℕ) (k : ℕ) (l : Look) → tableBy t k (looks l) ≡ t
 unfolding tableBy tableAfter ruleOf
 look-keeps t k l = go (located t k) refl

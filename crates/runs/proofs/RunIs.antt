@@ -70,7 +70,7 @@ number-only (Unreckoned e) (Unreckoned f) q = cc
 
 -- ---- the eleven calls
 
--- HEADLINE: a port sample.
+-- A port sample.
 pub sample-run : {t u : List ℕ} {word : ℕ} {a : Sampled} → Samples t word u a →
     (u ≡ tableNext t (port word)) × ((k : ℕ) → bitsOf k a ≡ heardOf k t (port word))
 unfolding tableNext heardOf
@@ -92,33 +92,33 @@ module _ {t u : List ℕ} {k : ℕ} where
   unfolding ruleOf answerOf
   change-run c = done-run (changes c) (changeRow c) refl refl
 
-  -- HEADLINE: setup.
+  -- Setup.
   pub setup-run : (kind depth width turn : ℕ) {a : Done} →
       Makes (setupRow kind depth width turn) t k u a ↔ Says (changes (Setup kind depth width turn)) t k u (toldDone a)
   setup-run kind depth width turn = change-run (Setup kind depth width turn)
 
-  -- HEADLINE: erase.
+  -- Erase.
   pub erase-run : {a : Done} → Makes eraseRow t k u a ↔ Says (changes Erase) t k u (toldDone a)
   erase-run = change-run Erase
 
-  -- HEADLINE: preset.
+  -- Preset.
   pub preset-run : (p : ℤ) {a : Done} → Makes (presetRow p) t k u a ↔ Says (changes (Preset p)) t k u (toldDone a)
   preset-run p = change-run (Preset p)
 
-  -- HEADLINE: arm.
+  -- Arm.
   pub arm-run : {a : Done} → Makes armRow t k u a ↔ Says (changes Arm) t k u (toldDone a)
   arm-run = change-run Arm
 
-  -- HEADLINE: acknowledge.
+  -- Acknowledge.
   pub acknowledge-run : {a : Done} → Makes acknowledgeRow t k u a ↔ Says (changes Acknowledge) t k u (toldDone a)
   acknowledge-run = change-run Acknowledge
 
-  -- HEADLINE: restore.
+  -- Restore.
   pub restore-run : (bytes : List ℕ) {a : Done} → Makes (restoreRow bytes) t k u a ↔ Says (restore bytes) t k u (toldDone a)
   unfolding ruleOf answerOf
   restore-run bytes = done-run (restore bytes) (restoreRow bytes) refl refl
 
-  -- HEADLINE: a reading.
+  -- A reading.
   pub reading-run : (x : ℕ) {a : Reckoned} → ReadingMakes x t k u a ↔ Says (reading x) t k u (toldNumber a)
   unfolding tableNext tableBy answerIn answerOf ruleOf
   reading-run x {a} =
@@ -127,7 +127,7 @@ module _ {t u : List ℕ} {k : ℕ} where
         (λ s. record { answer = number-only a _ (s .told ∙ sym told); table = s .table }),
       )
 
-  -- HEADLINE: a view, which leaves the table.
+  -- A view, which leaves the table.
   pub view-run : {a : Viewed} → ((u ≡ t) × (a ≡ viewedIn t k)) ↔ Says (looks view) t k u (toldView a)
   unfolding tableNext answerIn answerOf lookRow
   view-run {a} =
@@ -136,7 +136,7 @@ module _ {t u : List ℕ} {k : ℕ} where
         (λ s. (s .table ∙ look-keeps t k view, view-only a _ (s .told ∙ sym told))),
       )
 
-  -- HEADLINE: a speed by period, which leaves the table.
+  -- A speed by period, which leaves the table.
   pub speed-run : (rate : ℕ) {a : Speed} → ((u ≡ t) × (a ≡ speedIn rate t k)) ↔ Says (looks (speed rate)) t k u (toldSpeed a)
   unfolding tableNext answerIn answerOf lookRow
   speed-run rate {a} =
@@ -145,7 +145,7 @@ module _ {t u : List ℕ} {k : ℕ} where
         (λ s. (s .table ∙ look-keeps t k (speed rate), speed-one-number a _ (number-only _ _ (s .told ∙ sym told)))),
       )
 
--- HEADLINE: a save, which leaves the table: b is what the buffer holds before it, d after it.
+-- A save, which leaves the table: b is what the buffer holds before it, d after it.
 pub save-run : {t : List ℕ} {k : ℕ} {b d : List ℕ} {a : Written} → SaveMakes t k b d a → Says (looks (save b)) t k t (toldBytes a d)
 unfolding tableNext answerIn answerOf lookRow
 save-run {t} {k} {b} {d} {a} w = record { table = sym (look-keeps t k (save b)); told = rw (w .answer, w .buffer) (go (located t k)) }

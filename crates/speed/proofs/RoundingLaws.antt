@@ -121,13 +121,13 @@ turned {n} {t} {v} h = record {
   away = λ e. rw (abs-neg n, scale-neg v t, abs-neg (v *ℤ pos t)) (h .away (rw (far-neg v n t) at e));
 }
 
--- HEADLINE: the rounded quotient is the nearest, a half away from zero.
+-- The rounded quotient is the nearest, a half away from zero.
 pub rounds : (n : ℤ) (t : ℕ) → 0 < t → Rounds n t (rounded n t)
 unfolding rounded
 rounds (pos a) t some = up-rounds a t some
 rounds (negsuc a) t some = turned (up-rounds (suc a) t some)
 
--- HEADLINE: and no other number is.
+-- And no other number is.
 pub rounds-only : (n : ℤ) (t : ℕ) → 0 < t → (v : ℤ) → Rounds n t v → v ≡ rounded n t
 unfolding rounded
 rounds-only (pos a) t some v h = up-only a t some v h

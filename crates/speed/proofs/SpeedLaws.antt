@@ -25,7 +25,7 @@ use Rattle.speed.proofs.RoundingLaws.{rounds}
 pub unsped-not : (v : ℤ) (e : Refusal) → Refused e ≡ Of v → ⊥
 unsped-not v e h = refused-not v e (ap speedNumber h)
 
--- HEADLINE: two speeds with one number, or one refusal, are one speed.
+-- Two speeds with one number, or one refusal, are one speed.
 pub speed-one-number : (a b : Speed) → speedNumber a ≡ speedNumber b → a ≡ b
 speed-one-number (Of v) (Of u) e = cc
 speed-one-number (Of v) (Refused d) e = absurd (refused-not v d (sym e))
@@ -119,11 +119,11 @@ module _ (D : ℤ) (T F : ℕ) (v : ℤ) (h : speedByCount D T F ≡ Of v) where
   pub some-samples : 0 < T
   some-samples = omega (arith, limits D T F (speed-given .0) .samples)
 
-  -- HEADLINE: the first bound: twice |v T - 1000 D F| is at most T.
+  -- The first bound: twice |v T - 1000 D F| is at most T.
   pub speed-near : 2 * natAbs ((v *ℤ pos T) -ℤ (D *ℤ pos (1000 * F))) ≤ T
   speed-near = rw (speed-given .1) (rounds (D *ℤ pos (1000 * F)) T some-samples .near)
 
--- HEADLINE: the second bound: where D is the difference of two counts that are floors of shaft angles in s-ths of a count, twice
+-- The second bound: where D is the difference of two counts that are floors of shaft angles in s-ths of a count, twice
 -- |v T s - 1000 F (angle difference)| is at most 2000 F (s - 1) + T s.
 pub speed-of-shaft : (α β : ℤ) (s T F : ℕ) (v : ℤ) → 0 < s → speedByCount (countedFrom α β s) T F ≡ Of v →
     2 * natAbs (((v *ℤ pos T) *ℤ pos s) -ℤ ((β -ℤ α) *ℤ pos (1000 * F))) ≤ angleBound s T F

@@ -60,16 +60,16 @@ stored x t k = go (located t k) refl
     go (At r) q = ap (λ (s : Row). storedRow s (readingRow x r)) (sym (found t k r q .1))
 
 module _ (x : ℕ) {t u : List ℕ} {k : ℕ} where
-  -- HEADLINE: a reading changes the named row alone.
+  -- A reading changes the named row alone.
   pub reads-spares : {a : Reckoned} → ReadingMakes x t k u a → Spares t k u
   reads-spares w = rw (w .table) (spares t k (ruled (readRow x) t k))
 
-  -- HEADLINE: where it is refused, every word stays.
+  -- Where it is refused, every word stays.
   pub unread-keeps : (e : Refusal) → ReadingMakes x t k u (Unreckoned e) → u ≡ t
   unfolding tableAfter storedRow
   unread-keeps e w = w .table ∙ rw (stored x t k, ← (w .answer))
 
-  -- HEADLINE: where it is accepted, the position that is answered is stored in the named row.
+  -- Where it is accepted, the position that is answered is stored in the named row.
   pub read-stores : (p : ℤ) → ReadingMakes x t k u (Number p) →
       (k < axesIn (length t)) × (readingRow x (rowAt t k) ≡ Number p) × (rowAt u k ≡ rowOf (readAxis p (axisOf (rowAt t k))))
   unfolding storedRow

@@ -75,23 +75,23 @@ save-late room r =
 
 -- ---- the calls
 
--- HEADLINE: restore says LENGTH, then AXIS, then its record's reasons in their own order, and never BROKEN or EMPTY.
+-- Restore says LENGTH, then AXIS, then its record's reasons in their own order, and never BROKEN or EMPTY.
 pub restore-ordered : (s : List ℕ) {t u : List ℕ} {k : ℕ} {a : Done} → Makes (restoreRow s) t k u a →
     Ordered doneNumber (λ r. doneOf (restoreRow s r)) t k a × ((doneNumber a ≢ numberOf BROKEN) × (doneNumber a ≢ numberOf EMPTY))
 restore-ordered s w = any-ordered _ w (restore-late s)
 
--- HEADLINE: a view says LENGTH, then AXIS, then its own.
+-- A view says LENGTH, then AXIS, then its own.
 pub view-ordered : (t : List ℕ) (k : ℕ) → Ordered viewNumber viewRow t k (viewedIn t k)
 view-ordered t k = in-order viewNumber Unseen (λ e. refl) viewRow t k view-late
 
--- HEADLINE: so does a reading.
+-- So does a reading.
 pub reading-ordered : (x : ℕ) (t : List ℕ) (k : ℕ) → Ordered refusalIn (readingRow x) t k (readIn x t k)
 reading-ordered x t k = in-order refusalIn Unreckoned (λ e. refl) (readingRow x) t k (reading-late x)
 
--- HEADLINE: so does speed by period.
+-- So does speed by period.
 pub speed-ordered : (rate : ℕ) (t : List ℕ) (k : ℕ) → Ordered speedRefusal (speedRow rate) t k (speedIn rate t k)
 speed-ordered rate t k = in-order speedRefusal Unsped (λ e. refl) (speedRow rate) t k (speed-late rate)
 
--- HEADLINE: so does save.
+-- So does save.
 pub save-ordered : (room : ℕ) (t : List ℕ) (k : ℕ) → Ordered writtenNumber (saveRow room) t k (saveIn room t k)
 save-ordered room t k = in-order writtenNumber Unwritten (λ e. refl) (saveRow room) t k (save-late room)

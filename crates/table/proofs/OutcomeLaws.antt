@@ -9,20 +9,20 @@ use Rattle.record.specs.declared.answer.Written.{Written}
 use Rattle.row_view.specs.declared.answer.Viewed.{Viewed}
 use Rattle.table.specs.Call.{viewedIn, ReadingMakes, speedIn, SaveMakes}
 
--- HEADLINE: a reading has one outcome.
+-- A reading has one outcome.
 pub reading-one : (x : ℕ) (t : List ℕ) (k : ℕ) {u v : List ℕ} {a b : Reckoned} →
     ReadingMakes x t k u a → ReadingMakes x t k v b → (a ≡ b) × (u ≡ v)
 reading-one x t k w z = (one (w .answer) (z .answer), one (w .table) (z .table))
 
--- HEADLINE: a save has one outcome, with the buffer in the table's place, which it only reads.
+-- A save has one outcome, with the buffer in the table's place, which it only reads.
 pub save-one : (t : List ℕ) (k : ℕ) (b : List ℕ) {c d : List ℕ} {a e : Written} →
     SaveMakes t k b c a → SaveMakes t k b d e → (a ≡ e) × (c ≡ d)
 save-one t k b w z = (one (w .answer) (z .answer), one (w .buffer) (z .buffer))
 
--- HEADLINE: a view, which only reads, has one answer.
+-- A view, which only reads, has one answer.
 pub view-one : (t : List ℕ) (k : ℕ) {a b : Viewed} → a ≡ viewedIn t k → b ≡ viewedIn t k → a ≡ b
 view-one t k p q = one p q
 
--- HEADLINE: so has speed by period.
+-- So has speed by period.
 pub speed-one : (rate : ℕ) (t : List ℕ) (k : ℕ) {a b : Speed} → a ≡ speedIn rate t k → b ≡ speedIn rate t k → a ≡ b
 speed-one rate t k p q = one p q

@@ -87,7 +87,7 @@ module _ (b : List ℕ) where
         go Counter q = record-fronts s n q
 
 module _ (t : List ℕ) (k : ℕ) (b : List ℕ) {d : List ℕ} where
-  -- HEADLINE: a save that is refused keeps every byte.
+  -- A save that is refused keeps every byte.
   pub unsaved-keeps : (e : Refusal) → SaveMakes t k b d (Unwritten e) → d ≡ b
   unsaved-keeps e w = w .buffer ∙ go (located t k) (sym (w .answer))
     where
@@ -95,7 +95,7 @@ module _ (t : List ℕ) (k : ℕ) (b : List ℕ) {d : List ℕ} where
       go (Refused x) q = refl
       go (At r) q = row-kept b r e q
 
-  -- HEADLINE: a save that is accepted answers n, puts the n bytes of the named axis's record at the front, and touches nothing beyond.
+  -- A save that is accepted answers n, puts the n bytes of the named axis's record at the front, and touches nothing beyond.
   pub save-fronts : (n : ℕ) → SaveMakes t k b d (Bytes n) → (k < axesIn (length t)) × Fronts (recordOf (savedOf (axisOf (rowAt t k)))) b n d
   save-fronts n w = go (located t k) refl (sym (w .answer))
     where

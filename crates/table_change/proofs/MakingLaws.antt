@@ -57,11 +57,11 @@ spares t k (Kept e) = record { size = refl; words = λ i h. refl; rows = λ j h.
 spares t k (To r) = record { size = length-setRow t k r; words = λ i h. word-other t k i r h; rows = λ j h. row-other t k j r h }
 
 module _ (rule : Row → Changed) {t u : List ℕ} {k : ℕ} where
-  -- HEADLINE: setup, erase, preset, arm, acknowledge and restore change the named row alone.
+  -- Setup, erase, preset, arm, acknowledge and restore change the named row alone.
   pub makes-spares : {a : Done} → Makes rule t k u a → Spares t k u
   makes-spares w = rw (w .table) (spares t k (ruled rule t k))
 
-  -- HEADLINE: where one of them is refused, every word stays.
+  -- Where one of them is refused, every word stays.
   pub undone-keeps : (e : Refusal) → Makes rule t k u (Undone e) → u ≡ t
   unfolding tableAfter
   undone-keeps e w = go (ruled rule t k) refl
@@ -70,7 +70,7 @@ module _ (rule : Row → Changed) {t u : List ℕ} {k : ℕ} where
       go (Kept x) q = w .table ∙ rw q
       go (To r) q = absurd (let z : _≡_ {A = ℕ} 0 1 = cc (w .answer) in omega arith)
 
-  -- HEADLINE: where it is done, there is an axis of that number, and its row is the one that the rule makes of it.
+  -- Where it is done, there is an axis of that number, and its row is the one that the rule makes of it.
   pub done-makes : Makes rule t k u Yes → (k < axesIn (length t)) × (rule (rowAt t k) ≡ To (rowAt u k))
   done-makes w = go (ruled rule t k) refl
     where

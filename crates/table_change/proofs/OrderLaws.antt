@@ -60,7 +60,7 @@ module _ {A : Type 0} (number : A → ℕ) (refuse : Refusal → A) (same : (e :
   only : (e f : Refusal) → numberOf e ≢ numberOf f → located t k ≡ Refused e → number (onFound refuse say (located t k)) ≢ numberOf f
   only e f n q w = n (sym (same e) ∙ rw q at w)
 
-  -- HEADLINE: a call whose own rule gives only later reasons, in an order with LENGTH before AXIS, says both exactly where their lines do.
+  -- A call whose own rule gives only later reasons, in an order with LENGTH before AXIS, says both exactly where their lines do.
   pub by-order : (order : List Refusal) → placeIn order (numberOf Length) ≤ placeIn order (numberOf Axis) →
       ((r : Row) → After order Axis (number (say r))) → Ordered number say t k (onFound refuse say (located t k))
   by-order order first late = go (search t k)
@@ -82,11 +82,11 @@ module _ {A : Type 0} (number : A → ℕ) (refuse : Refusal → A) (same : (e :
         own = λ _. rw q;
       }
 
-  -- HEADLINE: so does a call that checks them in the order of all reasons.
+  -- So does a call that checks them in the order of all reasons.
   pub in-order : ((r : Row) → After checked Axis (number (say r))) → Ordered number say t k (onFound refuse say (located t k))
   in-order = by-order checked (lit≤ tt)
 
-  -- HEADLINE: a call that takes any row is never refused as BROKEN or EMPTY.
+  -- A call that takes any row is never refused as BROKEN or EMPTY.
   pub any-row : ((r : Row) → After checked EMPTY (number (say r))) →
       (number (onFound refuse say (located t k)) ≢ numberOf BROKEN) × (number (onFound refuse say (located t k)) ≢ numberOf EMPTY)
   any-row late = (never BROKEN (lit≤ tt) (λ e. omega arith) (λ e. omega arith), never EMPTY (lit≤ tt) (λ e. omega arith) (λ e. omega arith))
@@ -101,11 +101,11 @@ module _ {A : Type 0} (number : A → ℕ) (refuse : Refusal → A) (same : (e :
           go (there l q) = after-not checked EMPTY f h (late (rowAt t k)) (rw q at e)
 
 module _ {A : Type 0} {number : A → ℕ} {say : Row → A} {t : List ℕ} {k : ℕ} {a : A} (o : Ordered number say t k a) where
-  -- HEADLINE: so LENGTH is exactly for a slice that is not 4n words, n from 1 to the limit.
+  -- So LENGTH is exactly for a slice that is not 4n words, n from 1 to the limit.
   pub length-line : (number a ≡ numberOf Length) ↔ ((n : ℕ) → 1 ≤ n → n ≤ mostAxes → length t ≢ n * 4)
   length-line = (λ e. length-wrong (length t) .0 (o .slice .0 e), λ h. o .slice .1 (length-wrong (length t) .1 h))
 
-  -- HEADLINE: and AXIS, with such a slice, exactly for a number of n or more.
+  -- And AXIS, with such a slice, exactly for a number of n or more.
   pub axis-line : (n : ℕ) → 1 ≤ n → n ≤ mostAxes → length t ≡ n * 4 → (number a ≡ numberOf Axis) ↔ (n ≤ k)
   axis-line n some most e =
       let held : axesIn (length t) ≡ n = rw e (axes-of n most) in
@@ -169,27 +169,27 @@ module _ (rule : Row → Changed) {t u : List ℕ} {k : ℕ} {a : Done} (w : Mak
     rw (w .answer) (any-row changedNumber Kept (λ e. refl) rule t k later),
   )
 
--- HEADLINE: setup says LENGTH, then AXIS, then its own, and never BROKEN or EMPTY.
+-- Setup says LENGTH, then AXIS, then its own, and never BROKEN or EMPTY.
 pub setup-ordered : (kind depth width turn : ℕ) {t u : List ℕ} {k : ℕ} {a : Done} → Makes (setupRow kind depth width turn) t k u a →
     Ordered doneNumber (λ r. doneOf (setupRow kind depth width turn r)) t k a ×
     ((doneNumber a ≢ numberOf BROKEN) × (doneNumber a ≢ numberOf EMPTY))
 setup-ordered kind depth width turn w = any-ordered _ w (setup-late kind depth width turn)
 
--- HEADLINE: so does erase.
+-- So does erase.
 pub erase-ordered : {t u : List ℕ} {k : ℕ} {a : Done} → Makes eraseRow t k u a →
     Ordered doneNumber (λ r. doneOf (eraseRow r)) t k a × ((doneNumber a ≢ numberOf BROKEN) × (doneNumber a ≢ numberOf EMPTY))
 erase-ordered w = any-ordered _ w erase-late
 
--- HEADLINE: preset says LENGTH, then AXIS, then its own.
+-- Preset says LENGTH, then AXIS, then its own.
 pub preset-ordered : (p : ℤ) {t u : List ℕ} {k : ℕ} {a : Done} → Makes (presetRow p) t k u a →
     Ordered doneNumber (λ r. doneOf (presetRow p r)) t k a
 preset-ordered p w = ordered-by _ w (preset-late p)
 
--- HEADLINE: so does arm.
+-- So does arm.
 pub arm-ordered : {t u : List ℕ} {k : ℕ} {a : Done} → Makes armRow t k u a → Ordered doneNumber (λ r. doneOf (armRow r)) t k a
 arm-ordered w = ordered-by _ w arm-late
 
--- HEADLINE: so does acknowledge.
+-- So does acknowledge.
 pub acknowledge-ordered : {t u : List ℕ} {k : ℕ} {a : Done} → Makes acknowledgeRow t k u a →
     Ordered doneNumber (λ r. doneOf (acknowledgeRow r)) t k a
 acknowledge-ordered w = ordered-by _ w acknowledge-late

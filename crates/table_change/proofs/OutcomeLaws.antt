@@ -8,7 +8,7 @@ use Rattle.row_calls.specs.declared.answer.Changed.{Changed}
 use Rattle.row_calls.specs.declared.answer.Done.{Done}
 use Rattle.table_change.specs.Making.{Makes}
 
--- HEADLINE: setup, erase, preset, arm, acknowledge and restore, each by its rule, have one outcome.
+-- Setup, erase, preset, arm, acknowledge and restore, each by its rule, have one outcome.
 pub makes-one : (rule : Row → Changed) (t : List ℕ) (k : ℕ) {u v : List ℕ} {a b : Done} →
     Makes rule t k u a → Makes rule t k v b → (a ≡ b) × (u ≡ v)
 makes-one rule t k w z = (one (w .answer) (z .answer), one (w .table) (z .table))

@@ -30,7 +30,7 @@ change-made (Preset p) r q e = preset-keeps p r q e .words
 change-made Arm r q e = arm-keeps r q e .words
 change-made Acknowledge r q e = acknowledge-keeps r q e .words
 
--- HEADLINE: so does every call by such a rule.
+-- So does every call by such a rule.
 pub call-words : (rule : Row → Changed) → Made rule → (t : List ℕ) (k : ℕ) → AllWords t → AllWords (tableAfter t k (ruled rule t k))
 call-words rule made t k h = go (ruled rule t k) refl
   where

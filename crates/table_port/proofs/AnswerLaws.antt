@@ -5,7 +5,7 @@ use Rattle.table_port.specs.declared.Sampled.{Sampled}
 use Rattle.table_port.specs.declared.Sampled.the-variants.{Seen, Refused}
 use Rattle.table_port.specs.Port.{sampledNumber, sampledFound, sampledMasks}
 
--- HEADLINE: the number, the number found and the masks determine what a port sample answers.
+-- The number, the number found and the masks determine what a port sample answers.
 pub sample-told : (a b : Sampled) →
     sampledNumber a ≡ sampledNumber b → sampledFound a ≡ sampledFound b → sampledMasks a ≡ sampledMasks b → a ≡ b
 sample-told (Seen m) (Seen l) n f e = ap Seen e

@@ -51,7 +51,7 @@ unfolding maskOf
 mask-same zero f g e = refl
 mask-same (suc n) f g e = rw (mask-same n f g (λ k h. e k (omega arith)), e n (omega arith))
 
--- HEADLINE: bit j of a mask of n rows is row j's.
+-- Bit j of a mask of n rows is row j's.
 pub mask-bit : (n : ℕ) (f : ℕ → Bool) (j : ℕ) → j < n → flagOf j (maskOf n f) ≡ f j
 unfolding maskOf
 mask-bit zero f j h = absurd (omega arith)
@@ -60,6 +60,6 @@ mask-bit (suc n) f j h =
     (λ l. put-other (maskOf n f) n j (f n) l ∙ mask-bit n f j l)
     (eq-or-lt-of-le (le-of-suc-le-suc h))
 
--- HEADLINE: a mask of n rows has no bit at n or above.
+-- A mask of n rows has no bit at n or above.
 pub mask-above : (n : ℕ) (f : ℕ → Bool) (j : ℕ) → n ≤ j → flagOf j (maskOf n f) ≡ false
 mask-above n f j h = rw (div-eq-of-lt (lt-of-lt-of-le (mask-below n f) (pow-mono h)))

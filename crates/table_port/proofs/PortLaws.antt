@@ -107,12 +107,12 @@ unfolding sampledAnswer sampledTable
 sample-all t port n e h = record { answer = rw (← e, ne-eqb n 0 h); table = rw e }
 
 module _ (t : List ℕ) (port : ℕ) where
-  -- HEADLINE: a sample keeps the table's length.
+  -- A sample keeps the table's length.
   pub sample-length : length (sampledTable t port) ≡ length t
   unfolding sampledTable
   sample-length = length-sampledTo t (nibble port) (axesIn (length t))
 
-  -- HEADLINE: a sample is refused exactly where the slice holds no axis, and then by LENGTH.
+  -- A sample is refused exactly where the slice holds no axis, and then by LENGTH.
   pub sample-refused : (e : Refusal) → (sampledAnswer t port ≡ Refused e) ↔ ((axesIn (length t) ≡ 0) × (e ≡ Length))
   unfolding sampledAnswer
   sample-refused e = (go (eqb (axesIn (length t)) 0) refl, λ h. rw (eq-eqb _ _ (h .0), h .1))
@@ -123,7 +123,7 @@ module _ (t : List ℕ) (port : ℕ) where
       go true z q = (eqb-true _ _ z, cc)
       go false z q = absurd (let n : _≡_ {A = ℕ} 0 1 = cc in omega arith)
 
-  -- HEADLINE: a refused sample keeps every word.
+  -- A refused sample keeps every word.
   pub refused-keeps : (e : Refusal) → sampledAnswer t port ≡ Refused e → sampledTable t port ≡ t
   refused-keeps e q = sym (sample-none t port (sample-refused e .0 q .0) .table)
 
@@ -137,7 +137,7 @@ module _ (t : List ℕ) (port : ℕ) where
           absurd (let n : _≡_ {A = ℕ} 0 1 = cc (w .answer) in omega arith)
       go false z = let w = sample-all t port (axesIn (length t)) refl (eqb-false _ _ z) in cc (w .answer)
 
-  -- HEADLINE: no mask has a bit of an axis that there is not.
+  -- No mask has a bit of an axis that there is not.
   pub bits-above : (k : ℕ) → axesIn (length t) ≤ k → (m : Masks) → sampledAnswer t port ≡ Seen m → Bits m k false false false
   unfolding masksTo
   bits-above k h m q =
@@ -146,12 +146,12 @@ module _ (t : List ℕ) (port : ℕ) where
       record { doubles = rw e (mask-above n _ k h); index = rw e (mask-above n _ k h); broken = rw e (mask-above n _ k h) }
 
   module _ (k : ℕ) (h : k < axesIn (length t)) where
-    -- HEADLINE: each row after a sample is that row before it, stepped by its own four bits.
+    -- Each row after a sample is that row before it, stepped by its own four bits.
     pub sample-row : rowAt (sampledTable t port) k ≡ stepRow (rowAt t k) (nibble port k) .row
     unfolding sampledTable
     sample-row = row-stepped t (nibble port) (axesIn (length t)) k (axes-fit (length t)) h
 
-    -- HEADLINE: each row's bits of the answer are its own step's.
+    -- Each row's bits of the answer are its own step's.
     pub sample-bits : (m : Masks) → sampledAnswer t port ≡ Seen m →
         let s = stepRow (rowAt t k) (nibble port k) in
         Bits m k (s .double) (s .index) (s .broken)
@@ -164,19 +164,19 @@ module _ (t : List ℕ) (port : ℕ) where
     stays : (b : Bool) → stepRow (rowAt t k) (nibble port k) ≡ kept (rowAt t k) b → Stays t port k b
     stays b e = record { row = rw e at sample-row; bits = λ m q. rw e at (sample-bits m q) }
 
-    -- HEADLINE: an empty row keeps every word and sets no bit.
+    -- An empty row keeps every word and sets no bit.
     pub empty-row : statusOf (rowAt t k) ≡ Empty → Stays t port k false
     empty-row s = stays false (empty-stays (rowAt t k) (nibble port k) s)
 
-    -- HEADLINE: so does a counter row.
+    -- So does a counter row.
     pub counter-row : statusOf (rowAt t k) ≡ Counter → Stays t port k false
     counter-row s = stays false (counter-stays (rowAt t k) (nibble port k) s)
 
-    -- HEADLINE: a broken row keeps every word and sets its own bit of the third mask; no other row is held up by it.
+    -- A broken row keeps every word and sets its own bit of the third mask; no other row is held up by it.
     pub broken-row : statusOf (rowAt t k) ≡ Broken → Stays t port k true
     broken-row s = stays true (broken-stays (rowAt t k) (nibble port k) s)
 
-    -- HEADLINE: no other row sets that bit.
+    -- No other row sets that bit.
     pub broken-only : (m : Masks) → sampledAnswer t port ≡ Seen m → flagOf k (m .broken) ≡ true → statusOf (rowAt t k) ≡ Broken
     broken-only m q f = go (statusOf (rowAt t k)) refl
       where
@@ -189,7 +189,7 @@ module _ (t : List ℕ) (port : ℕ) where
         go Counter e = no (counter-row e .bits m q .broken)
         go Sampled e = no (sample-bits m q .broken ∙ ap (λ (s : SteppedRow). s .broken) (row-steps (rowAt t k) (nibble port k) e))
 
-  -- HEADLINE: words of 64 bits stay such words.
+  -- Words of 64 bits stay such words.
   pub sample-words : AllWords t → AllWords (sampledTable t port)
   unfolding sampledTable sampledTo
   sample-words h = go (axesIn (length t))
@@ -198,7 +198,7 @@ module _ (t : List ℕ) (port : ℕ) where
       go zero = h
       go (suc n) = set-words _ n _ (go n) (words-after (rowAt t n) (nibble port n) (row-words t n h))
 
--- HEADLINE: axes stand apart: where two tables agree on row k and two ports on its three lines, row k and its bits are the same after.
+-- Axes stand apart: where two tables agree on row k and two ports on its three lines, row k and its bits are the same after.
 pub sample-apart : (t u : List ℕ) (p q k : ℕ) → k < axesIn (length t) → k < axesIn (length u) →
     rowAt t k ≡ rowAt u k → fieldOf (k * 4) 3 p ≡ fieldOf (k * 4) 3 q →
     (rowAt (sampledTable t p) k ≡ rowAt (sampledTable u q) k) ×
@@ -217,7 +217,7 @@ sample-apart t u p q k h i r b =
           },
     )
 
--- HEADLINE: the fourth bits, and the bits of axes that there are not, are not read: ports that agree on the others do the same.
+-- The fourth bits, and the bits of axes that there are not, are not read: ports that agree on the others do the same.
 pub unread : (t : List ℕ) (p q : ℕ) → ((k : ℕ) → k < axesIn (length t) → fieldOf (k * 4) 3 p ≡ fieldOf (k * 4) 3 q) →
     (sampledTable t p ≡ sampledTable t q) × (sampledAnswer t p ≡ sampledAnswer t q)
 unfolding sampledTable sampledAnswer

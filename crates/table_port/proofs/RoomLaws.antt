@@ -4,7 +4,7 @@ use mathlib.Core.Path.{_≡_, refl}
 use lib.Dec.{lit≤}
 use Rattle.axis.specs.Limit.{mostAxes}
 
--- HEADLINE: a port word is just full with four bits of every axis.
+-- A port word is just full with four bits of every axis.
 pub port-room : mostAxes * 4 ≡ 64
 unfolding mostAxes
 port-room = refl

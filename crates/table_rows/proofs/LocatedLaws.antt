@@ -16,17 +16,17 @@ use Rattle.table_rows.specs.declared.Located.the-variants.{At, Refused}
 use Rattle.table_rows.proofs.RowsLaws.{axes-fit}
 
 module _ (t : List ℕ) (k : ℕ) where
-  -- HEADLINE: a wrong length is LENGTH, whatever axis is named.
+  -- A wrong length is LENGTH, whatever axis is named.
   pub found-none : axesIn (length t) ≡ 0 → Refused Length ≡ located t k
   unfolding located
   found-none e = rw (eq-eqb _ _ e)
 
-  -- HEADLINE: then a number of n or more is AXIS.
+  -- Then a number of n or more is AXIS.
   pub found-past : axesIn (length t) ≢ 0 → axesIn (length t) ≤ k → Refused Axis ≡ located t k
   unfolding located
   found-past z h = rw (ne-eqb _ _ z, le-ltb _ _ h)
 
-  -- HEADLINE: then the row is the one named.
+  -- Then the row is the one named.
   pub found-at : k < axesIn (length t) → At (rowAt t k) ≡ located t k
   unfolding located
   found-at h = let z : axesIn (length t) ≢ 0 = omega arith in rw (ne-eqb _ _ z, lt-ltb _ _ h)

@@ -64,7 +64,7 @@ axes-only len = go (eqb (len % 4) 0) (leb (len / 4) mostAxes) refl
     go true false e h = absurd (h refl)
     go false b e h = absurd (h refl)
 
--- HEADLINE: a slice holds no axis exactly where it is not 4n words, n from 1 to the limit.
+-- A slice holds no axis exactly where it is not 4n words, n from 1 to the limit.
 pub length-wrong : (len : ℕ) → (axesIn len ≡ 0) ↔ ((n : ℕ) → 1 ≤ n → n ≤ mostAxes → len ≢ n * 4)
 length-wrong len = (
   (λ z n some most e. let q : axesIn (n * 4) ≡ 0 = rw e at z in omega (arith, axes-of n most)),
@@ -82,7 +82,7 @@ pub length-setRow : (t : List ℕ) (k : ℕ) (r : Row) → length (setRow t k r)
 unfolding setRow
 length-setRow t k r = simp length-set
 
--- HEADLINE: a row replaced leaves every word outside it.
+-- A row replaced leaves every word outside it.
 pub word-other : (t : List ℕ) (k i : ℕ) (r : Row) → i / 4 ≢ k → getD (setRow t k r) i 0 ≡ getD t i 0
 unfolding setRow
 word-other t k i r h =
@@ -102,7 +102,7 @@ row-other t k j r h i = record {
   w3 = word-other t k (j * 4 + 3) r (omega arith) i;
 }
 
--- HEADLINE: the row replaced is the row given.
+-- The row replaced is the row given.
 pub row-same : (t : List ℕ) (k : ℕ) (r : Row) → k * 4 + 4 ≤ length t → rowAt (setRow t k r) k ≡ r
 unfolding rowAt setRow
 row-same t k r h =
@@ -129,7 +129,7 @@ same-word t u k e (suc (suc zero)) l = ap (λ (r : Row). r .w2) e
 same-word t u k e (suc (suc (suc zero))) l = ap (λ (r : Row). r .w3) e
 same-word t u k e (suc (suc (suc (suc x)))) l = absurd (omega arith)
 
--- HEADLINE: two tables of n rows that agree row by row are one table.
+-- Two tables of n rows that agree row by row are one table.
 pub table-ext : (t u : List ℕ) (n : ℕ) → length t ≡ n * 4 → length u ≡ n * 4 → ((k : ℕ) → k < n → rowAt t k ≡ rowAt u k) → t ≡ u
 table-ext t u n a b f = ext-getD 0 t u (a ∙ sym b) word
   where
@@ -152,7 +152,7 @@ store-words t j v h l i = go (eqb i j) refl (ltb j (length t)) refl
         let x : i ≡ j = eqb-true _ _ e in
         rw (x, getD-set-same) l
 
--- HEADLINE: the rows of a table of 64-bit words are four such words each.
+-- The rows of a table of 64-bit words are four such words each.
 pub row-words : (t : List ℕ) (k : ℕ) → AllWords t → Words (rowAt t k)
 unfolding rowAt
 row-words t k h = record { w0 = h (k * 4); w1 = h (k * 4 + 1); w2 = h (k * 4 + 2); w3 = h (k * 4 + 3) }

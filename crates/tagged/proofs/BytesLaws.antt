@@ -117,7 +117,7 @@ unfolding bytesOf
 length-bytesOf zero v = refl
 length-bytesOf (suc n) v = simp length-append (omega (arith, length-bytesOf n (v / 256)))
 
--- HEADLINE: a number below 256 ^ n is read back from its n bytes.
+-- A number below 256 ^ n is read back from its n bytes.
 pub number-back : (n v : ℕ) → v < 256 ^ n → numberIn (bytesOf n v) ≡ v
 unfolding bytesOf numberFrom
 number-back zero v h = omega arith
@@ -134,7 +134,7 @@ bytes-from n v (x ∷ xs) b =
     ∙ bytes-from (suc n) (v * 256 + x) xs (λ i. b (suc i))
     ∙ rw (digits-div v (b 0), digits-mod v (b 0)) (append-assoc (bytesOf n v) (x ∷ []) xs)
 
--- HEADLINE: bytes that were read as a number are the bytes of that number.
+-- Bytes that were read as a number are the bytes of that number.
 pub bytes-back : (n : ℕ) (xs : List ℕ) → AllBytes xs → length xs ≡ n → bytesOf n (numberIn xs) ≡ xs
 unfolding bytesOf
 bytes-back n xs b e = rw (← e) (ap (λ (m : ℕ). bytesOf m (numberIn xs)) (sym (zero-add (length xs))) ∙ bytes-from 0 0 xs b)

@@ -103,7 +103,7 @@ module _ (s : List ℕ) (at tag n : ℕ) (b : AllBytes s) (h : standsAt s at tag
   sized : length (valueAt s at n) ≡ n
   sized = length-take-le n (drop (at + 3) s) (simp length-drop (omega (arith, long)))
 
-  -- HEADLINE: a whole field at a place, with a value of any length, is what would be written there.
+  -- A whole field at a place, with a value of any length, is what would be written there.
   pub holds-is : drop at s ≡ fieldHolding tag (valueAt s at n) ++ drop (at + 3 + n) s
   unfolding bytesOf
   holds-is =
@@ -115,7 +115,7 @@ module _ (s : List ℕ) (at tag n : ℕ) (b : AllBytes s) (h : standsAt s at tag
       ∙ rw (← add-one at, number-is s (at + 1) 2 b (omega (arith, long)), first, second, sized)
       (ap (λ (r : List ℕ). headBytes tag n ++ r) (ap (λ (k : ℕ). drop k s) e ∙ rest))
 
-  -- HEADLINE: a number field at a place is what would be written there.
+  -- A number field at a place is what would be written there.
   pub stands-is : drop at s ≡ fieldBytes tag n (numberAt s (at + 3) n) ++ drop (at + 3 + n) s
   unfolding fieldBytes
   stands-is = rw (bytes-back n (valueAt s at n) (bytes-take n (drop (at + 3) s) (bytes-drop (at + 3) s b)) sized) holds-is
@@ -127,7 +127,7 @@ module _ (s : List ℕ) (at tag : ℕ) (value rest : List ℕ) (e : drop at s �
   unfolding bytesOf
   room = omega (arith, length-drop at s, ap length e, length-append value rest)
 
-  -- HEADLINE: a field that was written at a place stands there, whatever the length of its value.
+  -- A field that was written at a place stands there, whatever the length of its value.
   pub holds-back : (standsAt s at tag (length value) ≡ true) × (valueAt s at (length value) ≡ value)
   unfolding bytesOf
   holds-back =
@@ -139,7 +139,7 @@ module _ (s : List ℕ) (at tag : ℕ) (value rest : List ℕ) (e : drop at s �
         held ∙ take-append-seam value rest,
       )
 
--- HEADLINE: a number field that was written at a place is read there, and the next begins behind it.
+-- A number field that was written at a place is read there, and the next begins behind it.
 pub field-back : (s : List ℕ) (at tag n v : ℕ) (rest : List ℕ) → drop at s ≡ fieldBytes tag n v ++ rest → n < 256 ^ 2 → v < 256 ^ n →
     (fieldAt s at tag n ≡ Value v (at + 3 + n)) × (drop (at + 3 + n) s ≡ rest)
 unfolding fieldAt fieldBytes

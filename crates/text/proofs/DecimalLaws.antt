@@ -64,7 +64,7 @@ decimal-some = by-digits (λ n. 0 < length (decimal n))
     (λ n h. rw (decimal-one n h) (omega arith))
     (λ n h f. rw (decimal-more n h) (simp length-append (omega arith)))
 
--- HEADLINE: a number below 10 ^ k takes at most k digits, k above 0.
+-- A number below 10 ^ k takes at most k digits, k above 0.
 pub decimal-length : (k n : ℕ) → n < 10 ^ suc k → length (decimal n) ≤ suc k
 decimal-length zero n h = rw (decimal-one n h) (omega arith)
 decimal-length (suc k) n h = go (test (ltb n 10)) (decimal-length k (n / 10))
@@ -82,14 +82,14 @@ unfolding valueFrom
 value-snoc v [] d = refl
 value-snoc v (x ∷ ds) d = value-snoc (v * 10 + (x - ZERO)) ds d
 
--- HEADLINE: the digits of a number say that number.
+-- The digits of a number say that number.
 pub decimal-value : (n : ℕ) → valueFrom 0 (decimal n) ≡ n
 unfolding valueFrom
 decimal-value = by-digits (λ n. valueFrom 0 (decimal n) ≡ n)
     (λ n h. rw (decimal-one n h) (omega arith))
     (λ n h e. rw (decimal-more n h, value-snoc 0 (decimal (n / 10)) (ZERO + n % 10), e) (omega arith))
 
--- HEADLINE: no digits but those of 0 begin with a 0.
+-- No digits but those of 0 begin with a 0.
 pub decimal-lead : (n : ℕ) → 0 < n → ZERO < getD (decimal n) 0 0
 decimal-lead = by-digits (λ n. 0 < n → ZERO < getD (decimal n) 0 0)
     (λ n h some. rw (decimal-one n h) (omega arith))

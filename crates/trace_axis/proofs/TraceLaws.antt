@@ -136,41 +136,41 @@ input-sampled bs = status-stepped _ (map lowFour (take LIMIT bs)) ∙ setup-soun
 
 -- ---- the promises
 
--- HEADLINE: bytes fed in two parts are fed as one, so how an input is cut into reads plays no part.
+-- Bytes fed in two parts are fed as one, so how an input is cut into reads plays no part.
 pub cut : (x : Trace) (a b : List ℕ) → fedWith (fedWith x a) b ≡ fedWith x (a ++ b)
 unfolding fedWith
 cut x a b = rw (looked-append (x .samples) a b, traced-append, length-append, add-assoc)
 
--- HEADLINE: once the limit is reached, no byte changes anything.
+-- Once the limit is reached, no byte changes anything.
 pub past-limit : (x : Trace) (bs : List ℕ) → LIMIT ≤ x .samples → fedWith x bs ≡ x
 unfolding fedWith tracedBy
 past-limit x bs h =
     let e : LIMIT - x .samples ≡ 0 = omega arith in
     rw (e, add-zero)
 
--- HEADLINE: after a whole input the samples are its bytes, up to the limit.
+-- After a whole input the samples are its bytes, up to the limit.
 pub samples-rule : (bs : List ℕ) → fedWith started bs .samples ≡ min LIMIT (length bs)
 unfolding fedWith started
 samples-rule bs = zero-add _ ∙ length-take LIMIT bs
 
--- HEADLINE: after a whole input the axis's row is the one that the sample rule makes of those bytes, by their low four bits.
+-- After a whole input the axis's row is the one that the sample rule makes of those bytes, by their low four bits.
 pub row-rule : (bs : List ℕ) → rowAt (fedWith started bs .words) 0 ≡ inputRow bs
 unfolding fedWith started
 row-rule bs = row-traced (started .words) (lookedAt (started .samples) bs) start-length
     ∙ ap (λ (r : Row). steppedBy r (map lowFour (lookedAt 0 bs))) start-row
 
--- HEADLINE: the report of a whole input is its samples, and that row's position and doubles.
+-- The report of a whole input is its samples, and that row's position and doubles.
 pub rule : (bs : List ℕ) → reportOf (fedWith started bs) ≡ inputReport bs
 unfolding reportOf
 rule bs =
     let l : length (fedWith started bs .words) ≡ 4 = length-fed started bs ∙ start-length in
     rw (samples-rule bs, view-one (fedWith started bs .words) (inputRow bs) l (row-rule bs) (input-sampled bs))
 
--- HEADLINE: bytes behind the first 2 ^ 32 - 1 are not looked at.
+-- Bytes behind the first 2 ^ 32 - 1 are not looked at.
 pub limit-rule : (a b : List ℕ) → LIMIT ≤ length a → fedWith started (a ++ b) ≡ fedWith started a
 limit-rule a b h = sym (cut started a b) ∙ past-limit (fedWith started a) b (rw (samples-rule a) (omega arith))
 
--- HEADLINE: of no bytes the report is 0, 0 and 0.
+-- Of no bytes the report is 0, 0 and 0.
 pub none : reportOf (fedWith started []) ≡ record { samples = 0; position = pos 0; doubles = 0 }
 unfolding steppedBy positionOf
 none = rule []
