@@ -3,7 +3,7 @@
 use Prim.Native.Nat.{ℕ, _≤_, _<_}
 use native.Mathlib.Omega.{arith}
 use mathlib.Core.Path.{_≡_, refl, sym, ap, _∙_}
-use mathlib.Core.Logic.{_↔_, _≢_, inl, inr}
+use mathlib.Core.Logic.{_↔_, _≢_}
 use mathlib.Core.Bool.{true, false, true≢false}
 use mathlib.Core.List.{List}
 use borrow.Author.Tests.{eqb-true, eqb-false, ltb-true, ltb-false}
@@ -14,19 +14,15 @@ use Rattle.refusal.specs.Refusal.{numberOf}
 use Rattle.refusal.specs.Order.{checked, placeIn, After}
 use Rattle.refusal.specs.declared.Refusal.{Refusal}
 use Rattle.refusal.specs.declared.Refusal.the-variants.{Axis, Empty as EMPTY, Kind as KIND, Broken as BROKEN}
-use Rattle.refusal.proofs.RefusalLaws.{after-not, after-sooner, after-either}
+use Rattle.refusal.proofs.RefusalLaws.{after-not, after-sooner}
 use Rattle.reckon.specs.Reckoned.{refusalIn}
 use Rattle.reckon.specs.declared.Reckoned.{Reckoned}
 use Rattle.reckon.specs.declared.Reckoned.the-variants.{Number, Refused as Unreckoned}
-use Rattle.axis.specs.Config.{goodConfig}
 use Rattle.axis.specs.declared.row.Row.{Row}
 use Rattle.axis_sound.specs.Sound.{statusOf}
 use Rattle.axis_sound.specs.declared.Status.{Status}
 use Rattle.axis_sound.specs.declared.Status.the-variants.{Empty, Broken}
 use Rattle.record.specs.Answer.{writtenNumber}
-use Rattle.record.specs.Order.{Judged, other-layout, bad-nine, bad-kind, bad-rest, bad-value, all-good}
-use Rattle.record.specs.Record.{readAs}
-use Rattle.record.specs.declared.answer.Read.{Read}
 use Rattle.record.specs.declared.answer.Written.{Written}
 use Rattle.record.specs.declared.answer.Written.the-variants.{Bytes, Refused as Unwritten}
 use Rattle.record.proofs.OrderLaws.{exactly}
@@ -48,7 +44,7 @@ use Rattle.row_counter.proofs.ReadingLaws.{reading-reasons}
 use Rattle.row_speed.specs.Speed.{speedRow}
 use Rattle.row_speed.proofs.SpeedLaws.{speed-reasons}
 use Rattle.speed.specs.Speed.{speedNumber}
-use Rattle.row_saving.specs.Saving.{saveRow, savedIn, restoreRow, restoredBy}
+use Rattle.row_saving.specs.Saving.{saveRow, savedIn, restoreRow}
 use Rattle.row_saving.proofs.SaveLaws.{save-reasons}
 use Rattle.table_rows.specs.Table.{axesIn, rowAt}
 use Rattle.table_rows.specs.Located.{located, onFound}
@@ -56,8 +52,8 @@ use Rattle.table_rows.specs.declared.Located.{Located}
 use Rattle.table_rows.specs.declared.Located.the-variants.{At, Refused}
 use Rattle.table_change.specs.Making.{tableAfter}
 use Rattle.table_change.specs.Order.{Ordered}
-use Rattle.table_change.proofs.OrderLaws.{in-order, preset-late, arm-late, acknowledge-late}
-use Rattle.table.proofs.OrderLaws.{view-late, reading-late, speed-late, save-late}
+use Rattle.table_change.proofs.OrderLaws.{in-order, setup-late, erase-late, preset-late, arm-late, acknowledge-late}
+use Rattle.table.proofs.OrderLaws.{restore-late, view-late, reading-late, speed-late, save-late}
 use Rattle.runs.specs.Told.{refused, toldDone, toldView, toldNumber, toldBytes}
 use Rattle.runs.specs.Op.{Op, view, speed, save, changes, restore, reading, looks, lookRow, ruleOf, answerOf}
 use Rattle.runs.specs.Run.{names, tableBy, answerIn}
@@ -90,22 +86,14 @@ bytes-number (Unwritten e) b = refl
 
 -- A call that takes any row is done, or refused for a reason after KIND.
 any-late : (o : Op) → takesAny o ≡ true → (r : Row) → After checked KIND (refusalTold (answerOf o r))
-unfolding takesAny answerOf refusalTold setupRow eraseRow restoreRow restoredBy
+unfolding takesAny answerOf
 any-late (changes (Setup kind depth width turn)) q r =
-    after-either checked (λ (c : Changed). refusalTold (toldDone (doneOf c))) KIND (goodConfig kind depth width turn) _ _ (inl refl) (inr (lit< tt))
-any-late (changes Erase) q r = inl refl
+    rw (done-number (doneOf (setupRow kind depth width turn r))) (setup-late kind depth width turn r)
+any-late (changes Erase) q r = rw (done-number (doneOf (eraseRow r))) (erase-late r)
 any-late (changes (Preset p)) q r = absurd (true≢false (sym q))
 any-late (changes Arm) q r = absurd (true≢false (sym q))
 any-late (changes Acknowledge) q r = absurd (true≢false (sym q))
-any-late (restore bytes) q r = go (readAs bytes) (exactly bytes (readAs bytes) .0 refl)
-  where
-    go : (a : Read) → Judged bytes a → After checked KIND (refusalTold (toldDone (doneOf (restoredBy a))))
-    go a (other-layout o e) = rw e (inr (lit< tt))
-    go a (bad-nine o n e) = rw e (inr (lit< tt))
-    go a (bad-kind n k e) = rw e (inr (lit< tt))
-    go a (bad-rest n k l e) = rw e (inr (lit< tt))
-    go a (bad-value n k l v e) = rw e (inr (lit< tt))
-    go a (all-good n k l v e) = rw e (inl refl)
+any-late (restore bytes) q r = rw (done-number (doneOf (restoreRow bytes r))) (restore-late bytes r)
 any-late (reading x) q r = absurd (true≢false (sym q))
 any-late (looks l) q r = absurd (true≢false (sym q))
 

@@ -7,7 +7,7 @@ use lib.Dec.{lit<}
 use Rattle.position.specs.Position.{positionOf}
 use Rattle.refusal.specs.Refusal.{numberOf}
 use Rattle.refusal.specs.Order.{checked, After}
-use Rattle.refusal.specs.declared.Refusal.the-variants.{Axis, Broken as BROKEN, Empty as EMPTY}
+use Rattle.refusal.specs.declared.Refusal.the-variants.{Axis, Broken as BROKEN, Empty as EMPTY, Kind as KIND}
 use Rattle.reckon.specs.Reckoned.{refusalIn}
 use Rattle.reckon.specs.declared.Reckoned.the-variants.{Refused as Unreckoned}
 use Rattle.speed.specs.Speed.{speedRefusal}
@@ -38,12 +38,12 @@ use Rattle.table_change.proofs.OrderLaws.{in-order, by-status, late, any-ordere
 
 -- ---- each call's own reasons
 
--- Every number that a row's own rule answers is done or comes after AXIS; restore comes after EMPTY too.
-pub restore-late : (s : List ℕ) (r : Row) → After checked EMPTY (changedNumber (restoreRow s r))
+-- Every number that a row's own rule answers is done or comes after AXIS; of restore it comes after KIND.
+pub restore-late : (s : List ℕ) (r : Row) → After checked KIND (changedNumber (restoreRow s r))
 unfolding restoreRow restoredBy
 restore-late s r = go (readAs s) (exactly s (readAs s) .0 refl)
   where
-    go : (a : Read) → Judged s a → After checked EMPTY (changedNumber (restoredBy a))
+    go : (a : Read) → Judged s a → After checked KIND (changedNumber (restoredBy a))
     go a (other-layout o e) = rw e (inr (lit< tt))
     go a (bad-nine o n e) = rw e (inr (lit< tt))
     go a (bad-kind n k e) = rw e (inr (lit< tt))

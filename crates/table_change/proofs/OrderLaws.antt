@@ -132,12 +132,12 @@ pub late : {n : ℕ} → Past n → After checked Axis n
 unfolding Past
 late = after-sooner checked KIND Axis (lit≤ tt)
 
--- Every number that a row's own rule answers is done or comes after AXIS; setup and erase come after EMPTY too.
-pub setup-late : (kind depth width turn : ℕ) (r : Row) → After checked EMPTY (changedNumber (setupRow kind depth width turn r))
+-- Every number that a row's own rule answers is done or comes after AXIS; of setup and erase it comes after KIND.
+pub setup-late : (kind depth width turn : ℕ) (r : Row) → After checked KIND (changedNumber (setupRow kind depth width turn r))
 unfolding setupRow
-setup-late kind depth width turn r = either changedNumber EMPTY (goodConfig kind depth width turn) _ _ (inl refl) (inr (lit< tt))
+setup-late kind depth width turn r = either changedNumber KIND (goodConfig kind depth width turn) _ _ (inl refl) (inr (lit< tt))
 
-pub erase-late : (r : Row) → After checked EMPTY (changedNumber (eraseRow r))
+pub erase-late : (r : Row) → After checked KIND (changedNumber (eraseRow r))
 unfolding eraseRow
 erase-late r = inl refl
 
@@ -162,11 +162,11 @@ module _ (rule : Row → Changed) {t u : List ℕ} {k : ℕ} {a : Done} (w : Mak
       rw (w .answer) (record { slice = o .slice; named = o .named; own = λ h. ap doneOf (o .own h) })
 
   -- A call that takes any row.
-  pub any-ordered : ((r : Row) → After checked EMPTY (changedNumber (rule r))) →
+  pub any-ordered : ((r : Row) → After checked KIND (changedNumber (rule r))) →
       Ordered doneNumber (λ r. doneOf (rule r)) t k a × ((doneNumber a ≢ numberOf BROKEN) × (doneNumber a ≢ numberOf EMPTY))
   any-ordered later = (
-    ordered-by (λ r. after-sooner checked EMPTY Axis (lit≤ tt) (later r)),
-    rw (w .answer) (any-row changedNumber Kept (λ e. refl) rule t k later),
+    ordered-by (λ r. after-sooner checked KIND Axis (lit≤ tt) (later r)),
+    rw (w .answer) (any-row changedNumber Kept (λ e. refl) rule t k (λ r. after-sooner checked KIND EMPTY (lit≤ tt) (later r))),
   )
 
 -- Setup says LENGTH, then AXIS, then its own, and never BROKEN or EMPTY.
