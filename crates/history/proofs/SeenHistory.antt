@@ -12,6 +12,7 @@ use Rattle.axis.specs.declared.row.Row.{Row}
 use Rattle.axis_sound.specs.Sound.{statusOf}
 use Rattle.axis_sound.specs.declared.Status.the-variants.{Sampled, Counter}
 use Rattle.record.specs.Record.{savedAs, written}
+use Rattle.row_calls.specs.Change.{changed}
 use Rattle.row_view.specs.View.{viewOf, viewRow}
 use Rattle.row_view.specs.declared.answer.Viewed.the-variants.{Shows}
 use Rattle.row_view.proofs.ViewLaws.{view-is, view-counter}
@@ -23,8 +24,8 @@ use Rattle.history_axis.proofs.ToldLaws.{position-in}
 use Rattle.history_axis.proofs.StartLaws.{start-sound}
 use Rattle.runs.specs.Event.{Event, rowSince}
 use Rattle.history.specs.Phase.{phaseOf, startAxis, actsSince}
-use Rattle.history.specs.Seen.{viewTold, paceTold, savedTold, counterView}
-use Rattle.history.proofs.RowHistory.{phase-lawful, status-history, sampled-history}
+use Rattle.history.specs.Seen.{viewTold, paceTold, savedTold, counterView, counterSaved}
+use Rattle.history.proofs.RowHistory.{phase-lawful, status-history, sampled-history, counter-history}
 use Rattle.history.proofs.CounterHistory.{position-counter}
 
 -- ---- a sampled row
@@ -38,7 +39,9 @@ module _ {r : Row} (words : Words r) (h : List Event) (sampled : statusOf (rowSi
 
   place : positionOf (toldAxis (startAxis r h) (actsSince r h) .word) ≡ positionAt (startAxis r h) (actsSince r h)
   unfolding toldAxis
-  place = position-word _ (position-in (startAxis r h) (start-sound (phaseOf r h .start) first) (actsSince r h) (phase-lawful words h .legal))
+  place =
+      position-word _
+      (position-in (startAxis r h) (start-sound (phaseOf r h .start) first) (actsSince r h) (phase-lawful words h .legal))
 
   -- A view shows the told values, every one of them.
   pub view-seen : viewRow (rowSince r h) ≡ Shows (viewTold (startAxis r h) (actsSince r h))
@@ -68,3 +71,15 @@ pub view-counter-seen : {r : Row} (words : Words r) (h : List Event) → statusO
     viewRow (rowSince r h) ≡ Shows (counterView (phaseOf r h))
 unfolding counterView
 view-counter-seen words h counter = view-counter _ counter ∙ rw (position-counter words h counter)
+
+-- A save of it answers and writes what it would of its configuration and the told place.
+pub save-counter-seen : {r : Row} (words : Words r) (h : List Event) → statusOf (rowSince r h) ≡ Counter → (b : List ℕ) →
+    (saveRow (length b) (rowSince r h) ≡ savedAs (length b) (counterSaved (phaseOf r h)))
+    × (savedIn b (rowSince r h) ≡ written b (counterSaved (phaseOf r h)))
+unfolding saveRow savedIn counterSaved changed
+save-counter-seen {r} words h counter b =
+    let first = sym (status-history words h) ∙ counter in
+    let axis = counter-history words h first in
+    let saved : savedOf (axisOf (rowSince r h)) ≡ counterSaved (phaseOf r h) =
+        ap savedOf axis ∙ rw (position-word (phaseOf r h .place) (phase-lawful words h .placed first)) in
+    (rw counter (ap (savedAs (length b)) saved), rw counter (ap (written b) saved))

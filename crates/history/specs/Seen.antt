@@ -3,6 +3,7 @@
 use mathlib.Core.Bool.{false}
 use mathlib.Core.List.{List}
 use Rattle.axis.specs.Kind.{COUNTER}
+use Rattle.axis.specs.Row.{axisOf}
 use Rattle.axis.specs.declared.row.Axis.{Axis}
 use Rattle.axis.specs.declared.row.Pace.{Pace}
 use Rattle.record_axis.specs.declared.saved.Saved.{Saved}
@@ -49,3 +50,7 @@ counterView p = record {
   index = false;
   doubles = 0;
 }
+
+-- What a save of it saves.
+unfoldable pub counterSaved : Phase → Saved
+counterSaved p = record { config = axisOf (p .start) .config; position = p .place }

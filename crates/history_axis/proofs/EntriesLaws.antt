@@ -100,5 +100,6 @@ double-lines x s h = go (primedAt x h) refl
     go true q =
         let next = sampled s ∷ h in
         double-entry x s h _ (entry-primed x s h q)
-        ∙ double-opposite (x .config .kind) _ _ (below-four (levelAt x A h) (levelAt x B h)) (below-four (levelAt x A next) (levelAt x B next))
+        ∙ double-opposite (x .config .kind) _ _ (below-four (levelAt x A h) (levelAt x B h))
+        (below-four (levelAt x A next) (levelAt x B next))
         ∙ both-differ (levelAt x A h) (levelAt x B h) (levelAt x A next) (levelAt x B next)

@@ -8,10 +8,10 @@ use Rattle.record.specs.Record.{testedAs}
 use Rattle.host_answers.specs.Answer.{answerTo, answerTest}
 use Rattle.host_answers.specs.declared.answer.Answer.{Answer}
 
--- Ubrenchip_widen, and ubrenchip_speed_by_count, which answers as a calculation of its speed's number does.
+-- What `ubrenchip_widen` answers, and `ubrenchip_speed_by_count`, which answers as a calculation of its speed's number does.
 pub host-reckoned-one : (a : Reckoned) (r s : Answer) → r ≡ answerTo a → s ≡ answerTo a → r ≡ s
 host-reckoned-one a r s = one
 
--- Ubrenchip_test_record.
+-- What `ubrenchip_test_record` answers.
 pub host-test-one : (slice : List ℕ) (r s : Answer) → r ≡ answerTest (testedAs slice) → s ≡ answerTest (testedAs slice) → r ≡ s
 host-test-one slice r s = one

@@ -1,5 +1,5 @@
--- What the headlines ask of a run is met: by a shaft on axis 1 while axis 0 is called between, and by a counter with every kind of refused
--- call between its readings. Computed to their end.
+-- What the headlines ask of a run is met: by a shaft on axis 1 while axis 0 is called between, and by a counter with refused calls of six
+-- kinds between its readings. Computed to their end.
 use Prim.Native.Nat.{_^_, _+_, _*_}
 use mathlib.Core.Path.{refl}
 use mathlib.Core.Bool.{false}
@@ -56,9 +56,9 @@ pub counter-met :
     (asked (reading 44) ∷ asked (restore []) ∷ asked (changes (Preset (pos (2 ^ 62)))) ∷ asked (changes (Setup 8 1 8 0))
     ∷ asked (reading 131) ∷ asked (reading 256) ∷ asked (changes Arm) ∷ bits 7 ∷ asked (looks view) ∷ asked (reading 3) ∷ [])
     (pos 300 ∷ pos 259 ∷ [])
-unfolding modZ rowSince rowNext rowAfter ruleOf answerOf lookRow readRow storedRow readingRow statusOf widened goodReading inRange positionOf
-    nearestTo orRange changed wordOf viewRow setupRow goodConfig presetRow placeRow armRow restoreRow restoredBy readAs starts layoutRefusal
-    fieldAt stepRow stepBy
+unfolding modZ rowSince rowNext rowAfter ruleOf answerOf lookRow readRow storedRow readingRow statusOf widened goodReading inRange
+    positionOf nearestTo orRange changed wordOf viewRow setupRow goodConfig presetRow placeRow armRow restoreRow restoredBy readAs starts
+    layoutRefusal fieldAt stepRow stepBy
 counter-met =
     read (pos 300)
     (refusing (restore []) Record refl

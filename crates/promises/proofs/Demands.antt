@@ -1,8 +1,8 @@
 -- The three demands, in order: the twelve theorems that the rest of this repository is for. Each is written out in the definitions of
 -- specs/ and proved in one line by the law that it cites. That every call ends and never traps, whatever it is lent, is what the check of
 -- each function says, and no public call asks anything of its caller; what the calls answer and leave is what `Samples`, `Makes`,
--- `SaveMakes` and their like promise, in the contracts of table_port, table_change and table. A run of calls is told by `tableRun` and
--- `heard` of runs, and RunIs there says that each of its calls is what that call's contract promises.
+-- `ReadingMakes`, `SaveMakes`, `viewedIn` and `speedIn` promise, in the contracts of table_port, table_change and table. A run of calls is
+-- told by `tableRun` and `heard` of runs, and RunIs there says that each of its calls is what that call's contract promises.
 use Prim.Native.Nat.{ℕ, _+_, _*_, _≤_, _<_, min}
 use mathlib.Core.Path.{_≡_}
 use mathlib.Core.Logic.{_↔_, _≢_}
@@ -17,6 +17,7 @@ use Rattle.fields.specs.Field.{flagOf}
 use Rattle.position.specs.Position.{positionOf}
 use Rattle.tagged.specs.Bytes.{AllBytes}
 use Rattle.axis.specs.Kind.{X4}
+use Rattle.axis.specs.Limit.{mostAxes}
 use Rattle.axis.specs.Row.{axisOf, rowOf, freshAt}
 use Rattle.axis_sound.specs.Sound.{statusOf}
 use Rattle.axis_sound.specs.declared.Status.the-variants.{Sampled, Counter}
@@ -33,7 +34,8 @@ use Rattle.table_port.specs.declared.Masks.{Masks}
 use Rattle.table_port.specs.declared.Sampled.{Sampled as Sample}
 use Rattle.table_port.specs.declared.Sampled.the-variants.{Seen, Refused}
 use Rattle.table_change.specs.Making.{Makes}
-use Rattle.table.specs.Call.{SaveMakes}
+use Rattle.row_view.specs.declared.answer.Viewed.the-variants.{Shows}
+use Rattle.table.specs.Call.{viewedIn, SaveMakes}
 use Rattle.table.proofs.SaveLaws.{unsaved-keeps}
 use Rattle.history_axis.specs.Levels.{primedAt}
 use Rattle.history_axis.specs.Entries.{numberOfE, bothChange}
@@ -44,12 +46,14 @@ use Rattle.runs.specs.Op.{Op, reading}
 use Rattle.runs.specs.Run.{Call, tableRun, answerIn, heard, Says}
 use Rattle.runs.specs.Refusing.{RefusesExactly}
 use Rattle.history.specs.Phase.{phaseOf, toldRow, startAxis, actsSince}
+use Rattle.history.specs.Seen.{viewTold}
 use Rattle.history.specs.Shaft.{ShaftShown}
 use Rattle.history.specs.Counter.{CounterReads}
 use Rattle.promises.specs.Own.{events, own, toldSince}
 use Rattle.promises.specs.Agreement.{BeginAlike, EndAlike}
 use Rattle.promises.proofs.Refusing.{sample-says, call-says}
 use Rattle.promises.proofs.CountIsRight.{row-told, position-told, doubles-told, double-told, double-none}
+use Rattle.promises.proofs.UserSees.{view-told}
 use Rattle.promises.proofs.Shafts.{shaft-double, shaft-position, shaft-counter, shaft-reading}
 use Rattle.promises.proofs.Restoring.{restores-save, saves-restored, other-layout}
 use Rattle.promises.proofs.Apart.{ends-alike}
@@ -57,13 +61,14 @@ use Rattle.promises.proofs.ToldAlone.{heard-told}
 
 -- ---- 1. Never trapped, always ends: each refusal comes exactly when document 01 says, and nothing lent has changed
 
--- HEADLINE: a port sample is refused exactly where the slice is no table, by LENGTH, and then every word stays.
+-- HEADLINE: a port sample is refused exactly where the slice is not four words for each of 1 to the most axes there may be, by LENGTH, and
+-- then every word stays.
 pub sample-refused : (t u : List ℕ) (word : ℕ) (a : Sample) → Samples t word u a → (e : Refusal) →
-    ((a ≡ Refused e) ↔ ((axesIn (length t) ≡ 0) × (e ≡ Length))) × (a ≡ Refused e → u ≡ t)
+    ((a ≡ Refused e) ↔ (((n : ℕ) → 1 ≤ n → n ≤ mostAxes → length t ≢ n * 4) × (e ≡ Length))) × (a ≡ Refused e → u ≡ t)
 sample-refused t u word a = sample-says t u word a
 
--- HEADLINE: a call that names an axis answers the reasons 1 to 5 exactly when their lines say and else what the named row's own rule says,
--- and where it is refused every word stays.
+-- HEADLINE: a call that names an axis answers the reasons 1 to 5 exactly when their lines say; on a row that it takes it answers as one of
+-- its lines in `Answers` says, the reasons 6 to 12 there; and where it is refused every word stays.
 pub call-refused : (o : Op) (t u : List ℕ) (k : ℕ) (a : Told) → Says o t k u a →
     RefusesExactly o t k a × ((e : Refusal) → a ≡ refused e → u ≡ t)
 call-refused o t u k a = call-says o t u k a
@@ -76,7 +81,8 @@ save-refused t b d k e = unsaved-keeps t k b e
 
 module _ (t : List ℕ) (k : ℕ) (words : AllWords t) (there : k < axesIn (length t)) where
   -- HEADLINE: after any run a sampled row's position, while RANGE is clear, is the last value set, restored or homed plus the net steps
-  -- that its mode counts on the filtered lines since, and its doubles is the smaller of 65,535 and the double steps since.
+  -- that its mode counts on the filtered lines since; its doubles is the smaller of 65,535 and the double steps since setup, restore or
+  -- acknowledge; and a view shows position, flags and doubles as they are told.
   pub count-told : (cs : List Call) → statusOf (rowAt (tableRun t cs) k) ≡ Sampled →
       (axisOf (rowAt (tableRun t cs) k) .flags .range ≡ false →
       positionOf (rowAt (tableRun t cs) k .w0)
@@ -86,7 +92,8 @@ module _ (t : List ℕ) (k : ℕ) (words : AllWords t) (there : k < axesIn (leng
       ≡ min 65535
       (doublesTally (startAxis (rowAt t k) (own k cs)) (actsSince (rowAt t k) (own k cs)) .value
       + numberOfE (doublesTally (startAxis (rowAt t k) (own k cs)) (actsSince (rowAt t k) (own k cs)) .moves)))
-  count-told cs s = (position-told t k words there cs s, doubles-told t k words there cs s)
+      × (viewedIn (tableRun t cs) k ≡ Shows (viewTold (startAxis (rowAt t k) (own k cs)) (actsSince (rowAt t k) (own k cs))))
+  count-told cs s = (position-told t k words there cs s, doubles-told t k words there cs s, view-told t k words there cs s)
 
   -- HEADLINE: every double step is flagged: mask bit k of any sample of a run stands exactly where row k is sampled and primed and both
   -- filtered lines, A and B, change.
@@ -121,8 +128,8 @@ module _ (t : List ℕ) (k : ℕ) (words : AllWords t) (there : k < axesIn (leng
       answerIn (tableRun t cs) k (reading (lowBits (axisOf (rowAt t k) .config .width) p)) ≡ number p)
   counter-followed s cs p = (shaft-counter t k words there s cs p, λ z. shaft-reading t k words there s cs p)
 
--- HEADLINE: a restore of what a save wrote, at any axis of any table, is done and makes the configuration and the position saved, all else
--- 0.
+-- HEADLINE: a restore of what a save wrote, at any axis of any table, is done, and its row is the configuration and the position saved with
+-- all else 0.
 pub save-restored : (t b : List ℕ) (k n : ℕ) {d : List ℕ} → SaveMakes t k b d (Bytes n) → (u : List ℕ) (j : ℕ) {v : List ℕ} {a : Done} →
     j < axesIn (length u) → Makes (restoreRow (take n d)) u j v a →
     (a ≡ Yes) × (rowAt v j ≡ rowOf (freshAt (axisOf (rowAt t k) .config) (axisOf (rowAt t k) .word)))
@@ -142,8 +149,8 @@ layout-refused = other-layout
 
 -- ---- 3. Axes are apart
 
--- HEADLINE: two tables and a run on each that agree on axis k's row and on k's own part of every call agree, for axis k, on its row at the
--- end and after each of its own events and on all that it is told, whatever the other axes did.
+-- HEADLINE: two tables of one length and a run on each that agree on axis k's row and on k's own part of every call agree, for axis k, on
+-- its row at the end and after each of its own events and on all that it is told, whatever the other axes did.
 pub axes-apart : (k : ℕ) (t u : List ℕ) (cs ds : List Call) → BeginAlike k t u cs ds → EndAlike k t u cs ds
 axes-apart k t u cs ds = ends-alike
 

@@ -38,7 +38,8 @@ module _ (t : List ℕ) (k : ℕ) (words : AllWords t) (h : k < axesIn (length t
   module _ (live : statusOf (rowAt t k) ≡ Sampled) (kind : axisOf (rowAt t k) .config .kind ≡ X4)
       (depth : axisOf (rowAt t k) .config .depth ≡ 1) (first : ShaftSample) where
     -- Where no move is above two quarter steps, mask bit k stands at exactly the samples with two.
-    pub shaft-double : (cs : List Call) (ts : List ShaftSample) → ShaftShown (own k cs) first ts → (word : ℕ) (s : ShaftSample) (m : Masks) →
+    pub shaft-double : (cs : List Call) (ts : List ShaftSample) → ShaftShown (own k cs) first ts →
+        (word : ℕ) (s : ShaftSample) (m : Masks) →
         rawOf (nibble word k) ≡ rawAt s → turnedBy first ts s ≤ 2 → sampledAnswer (tableRun t cs) word ≡ Seen m →
         flagOf k (m .doubles) ≡ eqb (turnedBy first ts s) 2
     shaft-double cs ts shown word s m levels g e =

@@ -24,7 +24,8 @@ pub shown : (v : ℤ) (n : ℕ) →
     × (map valueIn (Number v ∷ Refused Half ∷ Refused (Layout n) ∷ []) ≡ v ∷ pos 0 ∷ pos 0 ∷ [])
 shown v n = (refl, refl, refl)
 
--- At width 8: from 250, 256 is VALUE and 122 HALF; from the last position, 127 is HALF and 0 RANGE; from the first, 0 is RANGE and 2 a step.
+-- At width 8: from 250, 256 is VALUE and 122 HALF; from the last position, 127 is HALF and 0 RANGE; from the first, 0 is RANGE and 2 a
+-- step.
 pub refusals :
     map refusalIn (
     widened 8 (pos 250) 256

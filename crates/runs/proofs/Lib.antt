@@ -1,3 +1,4 @@
 pub mod CallLaws
 pub mod RunIs
+pub mod AnsweringLaws
 pub mod RefusingLaws

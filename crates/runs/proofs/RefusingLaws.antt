@@ -59,6 +59,7 @@ use Rattle.runs.specs.Op.{Op, view, speed, save, changes, restore, readi
 use Rattle.runs.specs.Run.{names, tableBy, answerIn}
 use Rattle.runs.specs.Refusing.{refusalTold, takesAny, WrongKind, RefusesExactly}
 use Rattle.runs.proofs.CallLaws.{look-keeps}
+use Rattle.runs.proofs.AnsweringLaws.{answers}
 
 -- ---- the number of what is told is that of the answer
 
@@ -181,7 +182,7 @@ module _ (o : Op) (t : List ℕ) (k : ℕ) where
       λ e. let w = on-row 5 (lit< tt) e in (w .0, wrong (test (takesAny o)) (w .1)),
       λ w. ap refusalTold (ordered .own (w .0)) ∙ rightly (test (takesAny o)) (w .1),
     );
-    own = ordered .own;
+    own = λ h takes. rw (ordered .own h) (answers o (rowAt t k) takes);
   }
     where
       wrong : Decided (takesAny o) → refusalTold (answerOf o (rowAt t k)) ≡ 5 → WrongKind o (statusOf (rowAt t k))

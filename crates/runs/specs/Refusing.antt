@@ -1,7 +1,7 @@
 -- When a call that names one axis is refused, for all calls at once: document 01, "Reasons for saying no".
 use Prim.Native.Nat.{ℕ, _≤_, _<_}
 use mathlib.Core.Path.{_≡_}
-use mathlib.Core.Logic.{_↔_, _≢_}
+use mathlib.Core.Logic.{_↔_, _≢_, _⊎_}
 use mathlib.Core.Bool.{Bool, true, false}
 use mathlib.Core.List.{List}
 use lib.ListN.{length}
@@ -12,7 +12,8 @@ use Rattle.axis_sound.specs.declared.Status.the-variants.{Empty, Sampled, Count
 use Rattle.row_calls.specs.declared.apply.Change.the-variants.{Setup, Erase, Preset, Arm, Acknowledge}
 use Rattle.table_rows.specs.Table.{axesIn, rowAt}
 use Rattle.runs.specs.Told.{Told, marks, refused, done, shown, number, wrote}
-use Rattle.runs.specs.Op.{Op, view, speed, save, changes, restore, reading, looks, answerOf}
+use Rattle.runs.specs.Op.{Op, view, speed, save, changes, restore, reading, looks}
+use Rattle.runs.specs.Answering.{Answers}
 
 -- The number of the refusal that an axis is told, 0 where there is none.
 unfoldable pub refusalTold : Told → ℕ
@@ -47,11 +48,16 @@ WrongKind (looks view) s = ⊥
 WrongKind (looks (speed rate)) s = s ≡ Counter
 WrongKind (looks (save buffer)) s = ⊥
 
--- The reasons 1 to 5 of a call that names axis k of a table, each exactly when, and beyond them what the call answers on the named row.
+-- A call takes a row: any row at all, or a sampled row or a counter that is not of the wrong kind.
+unfoldable pub Takes : Op → Status → Type 0
+Takes o s = (takesAny o ≡ true) ⊎ (((s ≡ Sampled) ⊎ (s ≡ Counter)) × (WrongKind o s → ⊥))
+
+-- The reasons 1 to 5 of a call that names axis k of a table, each exactly when, and on a row that the call takes the answer that one of
+-- its lines gives.
 pub record RefusesExactly (o : Op) (t : List ℕ) (k : ℕ) (a : Told) : Type 0 where
   pub slice : (refusalTold a ≡ 1) ↔ (axesIn (length t) ≡ 0)
   pub axis : (refusalTold a ≡ 2) ↔ ((axesIn (length t) ≢ 0) × (axesIn (length t) ≤ k))
   pub broken : (refusalTold a ≡ 3) ↔ ((k < axesIn (length t)) × (takesAny o ≡ false) × (statusOf (rowAt t k) ≡ Broken))
   pub empty : (refusalTold a ≡ 4) ↔ ((k < axesIn (length t)) × (takesAny o ≡ false) × (statusOf (rowAt t k) ≡ Empty))
   pub kind : (refusalTold a ≡ 5) ↔ ((k < axesIn (length t)) × WrongKind o (statusOf (rowAt t k)))
-  pub own : k < axesIn (length t) → a ≡ answerOf o (rowAt t k)
+  pub own : k < axesIn (length t) → Takes o (statusOf (rowAt t k)) → Answers (rowAt t k) o a
