@@ -81,5 +81,5 @@ save-counter-seen {r} words h counter b =
     let first = sym (status-history words h) ∙ counter in
     let axis = counter-history words h first in
     let saved : savedOf (axisOf (rowSince r h)) ≡ counterSaved (phaseOf r h) =
-        ap savedOf axis ∙ rw (position-word (phaseOf r h .place) (phase-lawful words h .placed first)) in
+    ap savedOf axis ∙ rw (position-word (phaseOf r h .place) (phase-lawful words h .placed first)) in
     (rw counter (ap (savedAs (length b)) saved), rw counter (ap (written b) saved))

@@ -51,8 +51,7 @@ module _ (t : List ℕ) (k : ℕ) (words : AllWords t) (h : k < axesIn (length t
       × (savedIn b (rowSince (rowAt t k) (own k cs)) ≡ written b said) →
       (a ≡ savedAs (length b) said) × (d ≡ written b said)
   saved-as said {b} w seen =
-      let found = found-at (tableRun t cs) k (still-there t k words h cs) in
-      (
+      let found = found-at (tableRun t cs) k (still-there t k words h cs) in (
         w .answer ∙ rw (← found) (ap (saveRow (length b)) (row-is t k words h cs) ∙ seen .0),
         w .buffer ∙ rw (← found) (ap (savedIn b) (row-is t k words h cs) ∙ seen .1),
       )
