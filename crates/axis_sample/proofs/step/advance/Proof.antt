@@ -1,5 +1,8 @@
+use mathlib.Core.Path.{ap, _∙_}
+use Rattle.axis_decode.specs.Decode.{isE}
 use Rattle.axis_filter.specs.Lines.{three}
 use Rattle.axis_settle.specs.Lines.{placeOf, line, moveTo, rises}
+use Rattle.axis_settle.specs.Settle.{settle}
 use Rattle.axis_sample.specs.Step.{outcome}
 use Rattle.axis_sample.proofs.StepLaws.{lines-are}
 use borrow.Author.Needs.{needs}
@@ -18,14 +21,16 @@ unfolding outcome
 returns c =
     let f = c .before .before .before .before in
     let start = f .before .before .before in
+    let x = start .args .x in
     let known = settled-requires (c .before .before) _ in
-    rw (
-      c .before .settled .ensures,
-      c .is-double .ensures,
-      known .0,
-      known .1,
-      lines-are (start .args .x) (start .args .s) (rw (f .before .lines-of .ensures) at (f .filter .ensures)),
-    )
+    let lines = lines-are x (start .args .s) (rw (f .before .lines-of .ensures) at (f .filter .ensures)) in
+    let move = known .0 ∙ ap (moveTo x) lines in
+    let rose = known .1 ∙ ap (rises x) lines in
+    λ i. record {
+      axis = (c .before .settled .ensures ∙ ap (settle x) lines) i;
+      double = (c .is-double .ensures ∙ ap isE move) i;
+      index = rose i;
+    }
 
 pub advance-spec : {M : Type 1} → statement M
 advance-spec =
