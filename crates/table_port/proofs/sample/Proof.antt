@@ -2,11 +2,13 @@
 use Prim.Native.Nat.{ℕ, _+_, _-_, _*_, _≤_, _<_}
 use native.Mathlib.Omega.{arith}
 use mathlib.Core.Path.{_≡_, refl, sym, ap, _∙_}
+use mathlib.Core.Logic.{_≢_}
 use mathlib.Core.List.{List}
 use lib.ListN.{length}
 use borrow.Author.Needs.{needs}
 use Rattle.axis.specs.Limit.{mostAxes}
-use Rattle.table_port.specs.Port.{nibble, sampledTo, maskOf, masksTo, noted, SamplesRow}
+use Rattle.table_rows.specs.Table.{axesIn}
+use Rattle.table_port.specs.Port.{nibble, sampledTo, maskOf, masksTo, noted, SamplesRow, Samples}
 use Rattle.row_sample.specs.declared.SteppedRow.{SteppedRow}
 use Rattle.table_port.specs.declared.Masks.{Masks}
 use Rattle.table_port.specs.declared.Sampled.the-variants.{Seen}
@@ -30,6 +32,12 @@ next {t₀} {port = port} {k = k} v h w e = record {
   masks = cc (masks-next t₀ (nibble port) k);
 }
 
+-- With every row done, they are those of the whole sample.
+ended : {t₀ t : List ℕ} {port n k : ℕ} {m : Masks} → Reached t₀ port n t m k → k ≡ axesIn (length t₀) → k ≢ 0 → Samples t₀ port t (Seen m)
+ended {t₀} {port = port} {k = k} v e h =
+    let w = sample-all t₀ port k e h in
+    record { answer = ap Seen (v .masks) ∙ w .answer; table = v .table ∙ w .table }
+
 abbrev Inv-loop : tie.InvT-loop
 Inv-loop table₀ port n masks₀ k₀ table masks k = Reached table₀ port n table masks k
 
@@ -38,11 +46,7 @@ abbrev μ-loop : tie.MeasureT-loop
 
 -- It stands before `returns`: a sample that does not refuse a table of no words is refused here.
 returns-2 : tie.Need-returns-2 Inv-loop μ-loop
-returns-2 c =
-    let v = c .before .loop .inv in
-    let a = c .before .before .before .before .before .args in
-    let w = sample-all (a .table .now) (a .port) (c .before .loop .k) (omega arith) (omega arith) in
-    record { answer = ap Seen (v .masks) ∙ w .answer; table = v .table ∙ w .table }
+returns-2 c = ended (c .before .loop .inv) (omega arith) (omega arith)
 
 returns : tie.Need-returns Inv-loop μ-loop
 returns c = sample-none _ _ (sym (c .before .axes-in .ensures) ∙ c .if1 .taken)
