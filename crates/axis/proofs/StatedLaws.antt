@@ -1,5 +1,5 @@
 -- What document 01 states of a row and of a configuration, "One row, four words" and "Calls that name one axis", computed to its end.
-use Prim.Native.Nat.{ℕ, _+_, _-_, _*_, _^_}
+use Prim.Native.Nat.{ℕ, _+_, _*_, _^_}
 use mathlib.Core.Path.{_≡_, refl}
 use mathlib.Core.Bool.{Bool, true, false}
 use mathlib.Core.List.{List, [], _∷_, map}
@@ -7,11 +7,10 @@ use Rattle.axis.specs.Kind.{X1, X2, X4, COUNTER}
 use Rattle.axis.specs.Config.{goodConfig}
 use Rattle.axis.specs.Flags.{withPrimed, withArmed, withHomed, withRange, withIndex}
 use Rattle.axis.specs.Limit.{mostAxes}
-use Rattle.axis.specs.Row.{flagsIn, axisOf, rowOf, waiting, fresh}
+use Rattle.axis.specs.Row.{axisOf, rowOf, waiting, fresh}
 use Rattle.axis.specs.declared.config.Config.{Config}
 use Rattle.axis.specs.declared.row.Axis.{Axis}
 use Rattle.axis.specs.declared.row.Flags.{Flags}
-use Rattle.axis.specs.declared.row.Pace.{Pace}
 use Rattle.axis.specs.declared.row.Row.{Row}
 
 -- ---- a row

@@ -1,11 +1,9 @@
 -- What document 01 states of codes and entries, "A port sample", Decode and Count, computed to its end.
-use Prim.Native.Nat.{ℕ}
 use mathlib.Core.Path.{_≡_, refl}
-use mathlib.Core.Bool.{Bool, true, false}
-use mathlib.Core.List.{List, [], _∷_, map}
-use lib.IntN.{ℤ, pos, negsuc}
+use mathlib.Core.Bool.{true, false}
+use mathlib.Core.List.{[], _∷_, map}
+use lib.IntN.{pos, negsuc}
 use Rattle.axis_decode.specs.Decode.{code, nextCode, worth, isE, mark}
-use Rattle.axis_decode.specs.declared.Move.{Move}
 use Rattle.axis_decode.specs.declared.Move.the-variants.{Still, Forward, Back, Double}
 
 -- A counts 1 in a code and B counts 2; forward is 0, 1, 3, 2, 0.

@@ -2,11 +2,10 @@
 use Prim.Native.Nat.{ℕ}
 use mathlib.Core.Path.{_≡_, refl}
 use mathlib.Core.Bool.{Bool, true, false}
-use mathlib.Core.List.{List, [], _∷_, map}
-use Rattle.axis_filter.specs.Lines.{Wire, A, B, Z, rawOf, levelOf, three}
+use mathlib.Core.List.{[], _∷_, map}
+use Rattle.axis_filter.specs.Lines.{A, B, Z, rawOf, levelOf, three}
 use Rattle.axis_filter.specs.Filter.{filterLine, filterLines}
 use Rattle.axis_filter.specs.declared.Line.{Line}
-use Rattle.axis_filter.specs.declared.Lines.{Lines}
 
 -- Bit 0 of a sample is A, bit 1 is B, bit 2 is Z, and the fourth is none of them.
 pub raw-stated :

@@ -1,5 +1,5 @@
 -- A sample on an axis: document 01, "A port sample".
-use mathlib.Core.Bool.{Bool, true, false, _&&_}
+use mathlib.Core.Bool.{Bool, true, false}
 use mathlib.Core.List.{[], _∷_}
 use Rattle.axis.specs.Flags.{withPrimed}
 use Rattle.axis.specs.declared.row.Axis.{Axis}
@@ -29,10 +29,6 @@ moveOf x s = moveTo x (filtered x s)
 -- Whether a sample on a primed axis is an index rise.
 abbrev pub zRose : Axis → Raw → Bool
 zRose x s = rises x (filtered x s)
-
--- Whether a sample on a primed axis homes it.
-abbrev pub homes : Axis → Raw → Bool
-homes x s = x .flags .armed && zRose x s
 
 -- A primed axis after a sample.
 abbrev pub advanced : Axis → Raw → Axis

@@ -2,7 +2,7 @@
 use Prim.Native.Nat.{ℕ}
 use mathlib.Core.Path.{_≡_, refl}
 use mathlib.Core.Bool.{Bool, true, false}
-use mathlib.Core.List.{List, [], _∷_, map}
+use mathlib.Core.List.{[], _∷_, map}
 use Rattle.refusal.specs.declared.Refusal.the-variants.{Length}
 use Rattle.axis.specs.Row.{emptyRow}
 use Rattle.row_sample.specs.declared.SteppedRow.{SteppedRow}

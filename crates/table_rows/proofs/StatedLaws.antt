@@ -6,7 +6,6 @@ use Rattle.axis.specs.Limit.{mostAxes}
 use Rattle.refusal.specs.declared.Refusal.the-variants.{Length, Axis}
 use Rattle.table_rows.specs.Table.{axesIn, rowAt, setRow}
 use Rattle.table_rows.specs.Located.{located}
-use Rattle.table_rows.specs.declared.Located.{Located}
 use Rattle.table_rows.specs.declared.Located.the-variants.{At, Refused}
 
 -- 4n words are n axes for n from 1 to 16, and any other length none.
