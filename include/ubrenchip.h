@@ -109,7 +109,7 @@ ubrenchip_answer ubrenchip_arm(uint64_t *table, size_t words, uint64_t axis);
 ubrenchip_answer ubrenchip_acknowledge(uint64_t *table, size_t words, uint64_t axis);
 
 /* What a view shows; all 0 on a refusal. A flag is 0 or 1; a counter has no flags and no doubles. */
-typedef struct ubrenchip_view {
+typedef struct ubrenchip_viewed {
     uint32_t refusal;
     uint32_t found; /* 0 */
     int64_t position;
@@ -121,10 +121,10 @@ typedef struct ubrenchip_view {
     uint32_t range;
     uint32_t index;
     uint32_t unused; /* 0 */
-} ubrenchip_view;
+} ubrenchip_viewed;
 
 /* Looks at an axis. */
-ubrenchip_view ubrenchip_look(const uint64_t *table, size_t words, uint64_t axis);
+ubrenchip_viewed ubrenchip_view(const uint64_t *table, size_t words, uint64_t axis);
 
 /* A narrow counter's reading: stores and answers the position. Refusals: VALUE, HALF, RANGE. */
 ubrenchip_answer ubrenchip_reading(uint64_t *table, size_t words, uint64_t axis, uint64_t reading);

@@ -65,7 +65,7 @@ static void sampled(const char *what, ubrenchip_sampled got, ubrenchip_sampled s
     same(what, got.broken, stated.broken);
 }
 
-static void shows(const char *what, ubrenchip_view got, ubrenchip_view stated)
+static void shows(const char *what, ubrenchip_viewed got, ubrenchip_viewed stated)
 {
     same(what, got.refusal, stated.refusal);
     same(what, got.found, stated.found);
@@ -190,9 +190,9 @@ static void counting(void)
     done("setup of x1", ubrenchip_setup(table, WORDS, 2, 1, 1, 0, 0));
     for (unsigned i = 0; i < sizeof codes; i++)
         sampled("a step", ubrenchip_sample(table, WORDS, codes[i] * 0x111u), (ubrenchip_sampled){0});
-    shows("x4 counts 4", ubrenchip_look(table, WORDS, 0), (ubrenchip_view){.position = 4, .kind = 4, .primed = 1});
-    shows("x2 counts 2", ubrenchip_look(table, WORDS, 1), (ubrenchip_view){.position = 2, .kind = 2, .primed = 1});
-    shows("x1 counts 1", ubrenchip_look(table, WORDS, 2), (ubrenchip_view){.position = 1, .kind = 1, .primed = 1});
+    shows("x4 counts 4", ubrenchip_view(table, WORDS, 0), (ubrenchip_viewed){.position = 4, .kind = 4, .primed = 1});
+    shows("x2 counts 2", ubrenchip_view(table, WORDS, 1), (ubrenchip_viewed){.position = 2, .kind = 2, .primed = 1});
+    shows("x1 counts 1", ubrenchip_view(table, WORDS, 2), (ubrenchip_viewed){.position = 1, .kind = 1, .primed = 1});
 }
 
 static void double_steps(void)
@@ -202,11 +202,11 @@ static void double_steps(void)
     sampled("priming", ubrenchip_sample(table, WORDS, 0), (ubrenchip_sampled){0});
     sampled("double step", ubrenchip_sample(table, WORDS, 0x300), (ubrenchip_sampled){.doubles = 1 << 2});
     sampled("step", ubrenchip_sample(table, WORDS, 0x200), (ubrenchip_sampled){0});
-    shows("0, 3, 2", ubrenchip_look(table, WORDS, 2), (ubrenchip_view){.position = 1, .kind = 4, .doubles = 1, .primed = 1});
+    shows("0, 3, 2", ubrenchip_view(table, WORDS, 2), (ubrenchip_viewed){.position = 1, .kind = 4, .doubles = 1, .primed = 1});
     done("acknowledge", ubrenchip_acknowledge(table, WORDS, 2));
-    shows("acknowledged", ubrenchip_look(table, WORDS, 2), (ubrenchip_view){.position = 1, .kind = 4, .primed = 1});
+    shows("acknowledged", ubrenchip_view(table, WORDS, 2), (ubrenchip_viewed){.position = 1, .kind = 4, .primed = 1});
     sampled("double step after a step", ubrenchip_sample(table, WORDS, 0x100), (ubrenchip_sampled){.doubles = 1 << 2});
-    shows("counted anew", ubrenchip_look(table, WORDS, 2), (ubrenchip_view){.position = 1, .kind = 4, .doubles = 1, .primed = 1});
+    shows("counted anew", ubrenchip_view(table, WORDS, 2), (ubrenchip_viewed){.position = 1, .kind = 4, .doubles = 1, .primed = 1});
 }
 
 static void filter(void)
@@ -215,9 +215,9 @@ static void filter(void)
     empty();
     done("setup", ubrenchip_setup(table, WORDS, 0, 4, 3, 0, 0));
     quiet("raw A", 0, raw, 6);
-    shows("six samples", ubrenchip_look(table, WORDS, 0), (ubrenchip_view){.position = 0, .kind = 4, .primed = 1});
+    shows("six samples", ubrenchip_view(table, WORDS, 0), (ubrenchip_viewed){.position = 0, .kind = 4, .primed = 1});
     quiet("raw A", 0, raw + 6, 1);
-    shows("the seventh", ubrenchip_look(table, WORDS, 0), (ubrenchip_view){.position = 1, .kind = 4, .primed = 1});
+    shows("the seventh", ubrenchip_view(table, WORDS, 0), (ubrenchip_viewed){.position = 1, .kind = 4, .primed = 1});
 }
 
 static void limit(void)
@@ -227,19 +227,19 @@ static void limit(void)
     done("setup", ubrenchip_setup(table, WORDS, 0, 4, 1, 0, 0));
     done("preset to the top", ubrenchip_preset(table, WORDS, 0, TOP));
     quiet("at the top", 0, codes, 2);
-    shows("held", ubrenchip_look(table, WORDS, 0), (ubrenchip_view){.position = TOP, .kind = 4, .primed = 1, .range = 1});
+    shows("held", ubrenchip_view(table, WORDS, 0), (ubrenchip_viewed){.position = TOP, .kind = 4, .primed = 1, .range = 1});
     quiet("back", 0, codes + 2, 1);
-    shows("one less", ubrenchip_look(table, WORDS, 0), (ubrenchip_view){.position = TOP - 1, .kind = 4, .primed = 1, .range = 1});
+    shows("one less", ubrenchip_view(table, WORDS, 0), (ubrenchip_viewed){.position = TOP - 1, .kind = 4, .primed = 1, .range = 1});
     quiet("forward", 0, codes + 1, 1);
-    shows("at the top again", ubrenchip_look(table, WORDS, 0), (ubrenchip_view){.position = TOP, .kind = 4, .primed = 1, .range = 1});
+    shows("at the top again", ubrenchip_view(table, WORDS, 0), (ubrenchip_viewed){.position = TOP, .kind = 4, .primed = 1, .range = 1});
     done("preset to the bottom", ubrenchip_preset(table, WORDS, 0, -TOP));
-    shows("preset", ubrenchip_look(table, WORDS, 0), (ubrenchip_view){.position = -TOP, .kind = 4, .primed = 1});
+    shows("preset", ubrenchip_view(table, WORDS, 0), (ubrenchip_viewed){.position = -TOP, .kind = 4, .primed = 1});
     quiet("at the bottom", 0, codes, 1);
-    shows("held", ubrenchip_look(table, WORDS, 0), (ubrenchip_view){.position = -TOP, .kind = 4, .primed = 1, .range = 1});
+    shows("held", ubrenchip_view(table, WORDS, 0), (ubrenchip_viewed){.position = -TOP, .kind = 4, .primed = 1, .range = 1});
     quiet("forward", 0, codes + 1, 1);
-    shows("one more", ubrenchip_look(table, WORDS, 0), (ubrenchip_view){.position = 1 - TOP, .kind = 4, .primed = 1, .range = 1});
+    shows("one more", ubrenchip_view(table, WORDS, 0), (ubrenchip_viewed){.position = 1 - TOP, .kind = 4, .primed = 1, .range = 1});
     quiet("back", 0, codes + 2, 1);
-    shows("at the bottom again", ubrenchip_look(table, WORDS, 0), (ubrenchip_view){.position = -TOP, .kind = 4, .primed = 1, .range = 1});
+    shows("at the bottom again", ubrenchip_view(table, WORDS, 0), (ubrenchip_viewed){.position = -TOP, .kind = 4, .primed = 1, .range = 1});
     remember();
     refused("preset past the top", ubrenchip_preset(table, WORDS, 0, TOP + 1), UBRENCHIP_VALUE);
     refused("preset past the bottom", ubrenchip_preset(table, WORDS, 0, -TOP - 1), UBRENCHIP_VALUE);
@@ -252,19 +252,19 @@ static void homing(void)
     empty();
     done("setup, 4 a turn", ubrenchip_setup(table, WORDS, 1, 4, 1, 0, 4));
     done("arm", ubrenchip_arm(table, WORDS, 1));
-    shows("armed", ubrenchip_look(table, WORDS, 1), (ubrenchip_view){.kind = 4, .armed = 1});
+    shows("armed", ubrenchip_view(table, WORDS, 1), (ubrenchip_viewed){.kind = 4, .armed = 1});
     sampled("priming", ubrenchip_sample(table, WORDS, 0x00), (ubrenchip_sampled){0});
     sampled("step", ubrenchip_sample(table, WORDS, 0x10), (ubrenchip_sampled){0});
     sampled("index", ubrenchip_sample(table, WORDS, 0x50), (ubrenchip_sampled){.index = 1 << 1});
-    shows("homed", ubrenchip_look(table, WORDS, 1), (ubrenchip_view){.kind = 4, .primed = 1, .homed = 1});
+    shows("homed", ubrenchip_view(table, WORDS, 1), (ubrenchip_viewed){.kind = 4, .primed = 1, .homed = 1});
     sampled("step, no index", ubrenchip_sample(table, WORDS, 0x30), (ubrenchip_sampled){0});
     sampled("index at 1", ubrenchip_sample(table, WORDS, 0x70), (ubrenchip_sampled){.index = 1 << 1});
-    shows("INDEX", ubrenchip_look(table, WORDS, 1),
-          (ubrenchip_view){.position = 1, .kind = 4, .primed = 1, .homed = 1, .index = 1});
+    shows("INDEX", ubrenchip_view(table, WORDS, 1),
+          (ubrenchip_viewed){.position = 1, .kind = 4, .primed = 1, .homed = 1, .index = 1});
     done("acknowledge", ubrenchip_acknowledge(table, WORDS, 1));
-    shows("acknowledged", ubrenchip_look(table, WORDS, 1), (ubrenchip_view){.position = 1, .kind = 4, .primed = 1, .homed = 1});
+    shows("acknowledged", ubrenchip_view(table, WORDS, 1), (ubrenchip_viewed){.position = 1, .kind = 4, .primed = 1, .homed = 1});
     done("preset", ubrenchip_preset(table, WORDS, 1, 7));
-    shows("preset", ubrenchip_look(table, WORDS, 1), (ubrenchip_view){.position = 7, .kind = 4, .primed = 1});
+    shows("preset", ubrenchip_view(table, WORDS, 1), (ubrenchip_viewed){.position = 7, .kind = 4, .primed = 1});
 }
 
 /* Armed axes at 7 whose first sample has Z at 1: they take the levels as they are and no more, whatever the code and the depth. */
@@ -282,14 +282,14 @@ static void priming(void)
     sampled("priming with Z at 1", ubrenchip_sample(table, WORDS, 0x5567), (ubrenchip_sampled){0});
     for (unsigned i = 0; i < AXES; i++) {
         row("primed", i, (uint64_t)TOP + 8, kinds[i] | depths[i] << 4 | PRIMED | ARMED | lines[i] << 19, 0, 4);
-        shows("primed", ubrenchip_look(table, WORDS, i),
-              (ubrenchip_view){.position = 7, .kind = (uint32_t)kinds[i], .primed = 1, .armed = 1});
+        shows("primed", ubrenchip_view(table, WORDS, i),
+              (ubrenchip_viewed){.position = 7, .kind = (uint32_t)kinds[i], .primed = 1, .armed = 1});
     }
     sampled("Z stays", ubrenchip_sample(table, WORDS, 0x5567), (ubrenchip_sampled){0});
     sampled("Z falls", ubrenchip_sample(table, WORDS, 0x1123), (ubrenchip_sampled){0});
     sampled("Z rises where the depth is 1", ubrenchip_sample(table, WORDS, 0x5567), (ubrenchip_sampled){.index = 1 << 0 | 1 << 2});
-    shows("homed", ubrenchip_look(table, WORDS, 0), (ubrenchip_view){.kind = 4, .primed = 1, .homed = 1});
-    shows("not yet", ubrenchip_look(table, WORDS, 1), (ubrenchip_view){.position = 7, .kind = 4, .primed = 1, .armed = 1});
+    shows("homed", ubrenchip_view(table, WORDS, 0), (ubrenchip_viewed){.kind = 4, .primed = 1, .homed = 1});
+    shows("not yet", ubrenchip_view(table, WORDS, 1), (ubrenchip_viewed){.position = 7, .kind = 4, .primed = 1, .armed = 1});
 }
 
 /* More double steps than are counted, in every mode and between both pairs of codes: each is marked, and doubles stay at 65,535. */
@@ -307,12 +307,12 @@ static void every_double(void)
     }
     sampled("no double step", ubrenchip_sample(all, 24, 0x111000), (ubrenchip_sampled){0});
     for (unsigned i = 0; i < 6; i++)
-        shows("65,540 double steps", ubrenchip_look(all, 24, i),
-              (ubrenchip_view){.kind = (uint32_t)kinds[i], .doubles = 65535, .primed = 1});
+        shows("65,540 double steps", ubrenchip_view(all, 24, i),
+              (ubrenchip_viewed){.kind = (uint32_t)kinds[i], .doubles = 65535, .primed = 1});
     done("acknowledge", ubrenchip_acknowledge(all, 24, 1));
     sampled("double steps", ubrenchip_sample(all, 24, 0x222333), (ubrenchip_sampled){.doubles = 0x3F});
-    shows("counted anew", ubrenchip_look(all, 24, 1), (ubrenchip_view){.kind = 2, .doubles = 1, .primed = 1});
-    shows("not acknowledged", ubrenchip_look(all, 24, 2), (ubrenchip_view){.kind = 1, .doubles = 65535, .primed = 1});
+    shows("counted anew", ubrenchip_view(all, 24, 1), (ubrenchip_viewed){.kind = 2, .doubles = 1, .primed = 1});
+    shows("not acknowledged", ubrenchip_view(all, 24, 2), (ubrenchip_viewed){.kind = 1, .doubles = 65535, .primed = 1});
 }
 
 /* A reading of a counter of width 8 from a position. */
@@ -327,19 +327,19 @@ static void readings(void)
     empty();
     done("setup of width 8", ubrenchip_setup(table, WORDS, 2, 8, 0, 8, 0));
     value("250, reading 3", reading(250, 3), 259);
-    shows("stored", ubrenchip_look(table, WORDS, 2), (ubrenchip_view){.position = 259, .kind = 8});
+    shows("stored", ubrenchip_view(table, WORDS, 2), (ubrenchip_viewed){.position = 259, .kind = 8});
     value("250, reading 121", reading(250, 121), 377);
     refused("250, reading 122", reading(250, 122), UBRENCHIP_HALF);
-    shows("not stored", ubrenchip_look(table, WORDS, 2), (ubrenchip_view){.position = 250, .kind = 8});
+    shows("not stored", ubrenchip_view(table, WORDS, 2), (ubrenchip_viewed){.position = 250, .kind = 8});
     value("250, reading 123", reading(250, 123), 123);
     value("-1, reading 0", reading(-1, 0), 0);
     value("0, reading 255", reading(0, 255), -1);
     refused("250, reading 256", reading(250, 256), UBRENCHIP_VALUE);
-    shows("not stored", ubrenchip_look(table, WORDS, 2), (ubrenchip_view){.position = 250, .kind = 8});
+    shows("not stored", ubrenchip_view(table, WORDS, 2), (ubrenchip_viewed){.position = 250, .kind = 8});
     value("to the top", reading(TOP - 3, 255), TOP);
-    shows("stored", ubrenchip_look(table, WORDS, 2), (ubrenchip_view){.position = TOP, .kind = 8});
+    shows("stored", ubrenchip_view(table, WORDS, 2), (ubrenchip_viewed){.position = TOP, .kind = 8});
     refused("past the top", reading(TOP, 0), UBRENCHIP_RANGE);
-    shows("not stored", ubrenchip_look(table, WORDS, 2), (ubrenchip_view){.position = TOP, .kind = 8});
+    shows("not stored", ubrenchip_view(table, WORDS, 2), (ubrenchip_viewed){.position = TOP, .kind = 8});
 }
 
 /* A step to a code, and then the same code for the samples between. */
@@ -405,7 +405,7 @@ static void saving(void)
     written("27 bytes, and none beyond", buffer, sizeof buffer, saved_counter, sizeof saved_counter);
     value("27 bytes in 27", ubrenchip_save(table, WORDS, 1, buffer, 27), 27);
     done("restore", ubrenchip_restore(table, WORDS, 0, buffer, 27));
-    shows("counter again", ubrenchip_look(table, WORDS, 0), (ubrenchip_view){.position = 99, .kind = 8});
+    shows("counter again", ubrenchip_view(table, WORDS, 0), (ubrenchip_viewed){.position = 99, .kind = 8});
     row("counter again", 0, table[4], table[5], table[6], table[7]);
 }
 
@@ -444,8 +444,8 @@ static void one_row(void)
     sampled("a broken row", ubrenchip_sample(table, WORDS, 3), (ubrenchip_sampled){.broken = 1 << 2});
     busy(HOMED | RANGE | INDEX);
     remember();
-    shows("looked at", ubrenchip_look(table, WORDS, 1),
-          (ubrenchip_view){.position = 5, .kind = 4, .doubles = 9, .primed = 1, .homed = 1, .range = 1, .index = 1});
+    shows("looked at", ubrenchip_view(table, WORDS, 1),
+          (ubrenchip_viewed){.position = 5, .kind = 4, .doubles = 9, .primed = 1, .homed = 1, .range = 1, .index = 1});
     kept("a look");
     value("speed", ubrenchip_speed_by_period(table, WORDS, 1, 7), -1000);
     kept("a speed");
@@ -487,7 +487,7 @@ static void all_refused(const char *what, uint64_t *words, size_t count, uint64_
     refused(what, ubrenchip_preset(words, count, axis, 0), refusal);
     refused(what, ubrenchip_arm(words, count, axis), refusal);
     refused(what, ubrenchip_acknowledge(words, count, axis), refusal);
-    shows(what, ubrenchip_look(words, count, axis), (ubrenchip_view){.refusal = refusal});
+    shows(what, ubrenchip_view(words, count, axis), (ubrenchip_viewed){.refusal = refusal});
     refused(what, ubrenchip_reading(words, count, axis, 0), refusal);
     refused(what, ubrenchip_speed_by_period(words, count, axis, 1000), refusal);
     refused(what, ubrenchip_save(words, count, axis, buffer, sizeof buffer), refusal);
@@ -534,7 +534,7 @@ static void sixteen_axes(void)
     done("setup of axis 15", ubrenchip_setup(all, 64, 15, 4, 1, 0, 0));
     sampled("priming", ubrenchip_sample(all, 64, 0), (ubrenchip_sampled){0});
     sampled("axis 15", ubrenchip_sample(all, 64, UINT64_MAX), (ubrenchip_sampled){.doubles = 1 << 15, .index = 1 << 15});
-    shows("axis 15", ubrenchip_look(all, 64, 15), (ubrenchip_view){.kind = 4, .doubles = 1, .primed = 1});
+    shows("axis 15", ubrenchip_view(all, 64, 15), (ubrenchip_viewed){.kind = 4, .doubles = 1, .primed = 1});
     sampled("17 axes", ubrenchip_sample(all, 68, 0), (ubrenchip_sampled){.refusal = UBRENCHIP_LENGTH});
     refused("17 axes", ubrenchip_erase(all, 68, 0), UBRENCHIP_LENGTH);
 }

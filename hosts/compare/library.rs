@@ -58,7 +58,7 @@ mod c {
         pub fn ubrenchip_preset(table: *mut u64, words: usize, axis: u64, position: i64) -> Answer;
         pub fn ubrenchip_arm(table: *mut u64, words: usize, axis: u64) -> Answer;
         pub fn ubrenchip_acknowledge(table: *mut u64, words: usize, axis: u64) -> Answer;
-        pub fn ubrenchip_look(table: *const u64, words: usize, axis: u64) -> View;
+        pub fn ubrenchip_view(table: *const u64, words: usize, axis: u64) -> View;
         pub fn ubrenchip_reading(table: *mut u64, words: usize, axis: u64, reading: u64) -> Answer;
         pub fn ubrenchip_speed_by_period(table: *const u64, words: usize, axis: u64, rate: u64) -> Answer;
         pub fn ubrenchip_save(table: *const u64, words: usize, axis: u64, buffer: *mut u8, length: usize) -> Answer;
@@ -117,7 +117,7 @@ pub fn acknowledge(table: &mut [u64], axis: u64) -> Answer {
 }
 
 pub fn look(table: &mut [u64], axis: u64) -> View {
-    unsafe { c::ubrenchip_look(pointer(table), table.len(), axis) }
+    unsafe { c::ubrenchip_view(pointer(table), table.len(), axis) }
 }
 
 pub fn reading(table: &mut [u64], axis: u64, reading: u64) -> Answer {

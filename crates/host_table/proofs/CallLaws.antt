@@ -21,7 +21,7 @@ pub save-one : (t : List ℕ) (k : ℕ) (before : List ℕ) {d e : List ℕ} {a 
     SavesToC t k before d a → SavesToC t k before e b → (a ≡ b) × (d ≡ e)
 save-one t k before = one-shown (λ d e. saved-one t k before)
 
--- ubrenchip_look
+-- ubrenchip_view
 pub look-one : (t : List ℕ) (k : ℕ) (a b : ViewAnswer) → a ≡ answerView (viewedIn t k) → b ≡ answerView (viewedIn t k) → a ≡ b
 look-one t k a b p q = one p q
 

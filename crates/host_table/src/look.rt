@@ -9,7 +9,7 @@ use host_answers::view::of_viewed;
 
 // What an axis shows: LENGTH, AXIS, BROKEN, EMPTY.
 #[no_mangle]
-pub extern "C" fn ubrenchip_look(table: &[u64], axis: u64) -> ViewAnswer
+pub extern "C" fn ubrenchip_view(table: &[u64], axis: u64) -> ViewAnswer
     ensures { λ r. ⌜ r ≡ answerView (viewedIn (now (table .entry)) axis) ⌝ }
 {
     of_viewed(table::look::view(table, axis))
