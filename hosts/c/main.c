@@ -1,4 +1,4 @@
-/* The C host's check: document 01's readings and edge values, through the header that C programs use. */
+/* The C host's check: the readings of docs/RULES.md and edge values, through the header that C programs use. */
 #include "check.h"
 
 static void widening(void)

@@ -1,5 +1,5 @@
-/* The calls on a table, through the header that C programs use: document 01's readings, every refusal, what each call leaves of every word
-   and byte, and runs past the limits. */
+/* The calls on a table, through the header that C programs use: the readings of docs/RULES.md, every refusal, what each call leaves of
+   every word and byte, and runs past the limits. */
 #include "check.h"
 
 #define AXES 4
@@ -149,7 +149,7 @@ static void quiet(const char *what, unsigned shift, const uint8_t *codes, unsign
         sampled(what, ubrenchip_sample(table, WORDS, (uint64_t)codes[i] << shift), (ubrenchip_sampled){0});
 }
 
-/* ---- document 01's readings, and the calls around them */
+/* ---- the readings of docs/RULES.md, and the calls around them */
 
 static void setting_up(void)
 {

@@ -1,4 +1,4 @@
--- What document 01 states of a row and of a configuration, "One row, four words" and "Calls that name one axis", computed to its end.
+-- What docs/RULES.md states of a row and of a configuration, "One row, four words" and "Calls that name one axis", computed to its end.
 use Prim.Native.Nat.{ℕ, _+_, _*_, _^_}
 use mathlib.Core.Path.{_≡_, refl}
 use mathlib.Core.Bool.{Bool, true, false}

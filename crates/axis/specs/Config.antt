@@ -1,4 +1,4 @@
--- What an axis may be set up as: document 01, "Calls that name one axis", Setup.
+-- What an axis may be set up as: docs/RULES.md, "Calls that name one axis", Setup.
 use Prim.Native.Nat.{ℕ, _^_, _<_, _≤_}
 use mathlib.Core.Path.{_≡_}
 use mathlib.Core.Bool.{Bool, true, _&&_, _||_}

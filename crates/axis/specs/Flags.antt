@@ -1,4 +1,4 @@
--- The flags of an axis with one of them set or cleared: document 01, "One row, four words".
+-- The flags of an axis with one of them set or cleared: docs/RULES.md, "One row, four words".
 use mathlib.Core.Bool.{Bool}
 use Rattle.axis.specs.declared.row.Flags.{Flags}
 

@@ -1,4 +1,4 @@
--- The kinds of axis and their numbers: document 01, "One row, four words". No other definition writes one of these numbers.
+-- The kinds of axis and their numbers: docs/RULES.md, "One row, four words". No other definition writes one of these numbers.
 use Prim.Native.Nat.{ℕ}
 use mathlib.Core.Bool.{Bool, _||_}
 use lib.Dec.{eqb}

@@ -1,4 +1,4 @@
--- How many axes there may be together: document 01, "One row, four words".
+-- How many axes there may be together: docs/RULES.md, "One row, four words".
 use Prim.Native.Nat.{ℕ}
 
 -- A table holds from 1 axis to this many; the code's `AXES`.

@@ -1,4 +1,4 @@
--- A row of the table, four words, and the axis that it holds: document 01, "One row, four words".
+-- A row of the table, four words, and the axis that it holds: docs/RULES.md, "One row, four words".
 use Prim.Native.Nat.{ℕ, _<_, _^_}
 use mathlib.Core.Path.{_≡_}
 use mathlib.Core.Bool.{Bool, false}

@@ -1,4 +1,4 @@
--- The laws of the count: document 01, "A port sample", Count.
+-- The laws of the count: docs/RULES.md, "A port sample", Count.
 use Prim.Native.Nat.{ℕ, _+_, _-_, _^_, _<_, _≤_, min}
 use mathlib.Core.Path.{_≡_, refl, sym, ap, _∙_}
 use mathlib.Core.Bool.{Bool, true, false, cond, true≢false}

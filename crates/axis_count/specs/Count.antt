@@ -1,4 +1,4 @@
--- The count: document 01, "A port sample", Count.
+-- The count: docs/RULES.md, "A port sample", Count.
 use Prim.Native.Nat.{ℕ, _+_, _-_, _^_, min}
 use mathlib.Core.Bool.{Bool, true, cond}
 use lib.Dec.{ltb}

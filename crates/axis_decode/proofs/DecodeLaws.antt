@@ -1,4 +1,4 @@
--- The laws of the code's tables: document 01, "A port sample", Decode.
+-- The laws of the code's tables: docs/RULES.md, "A port sample", Decode.
 use Prim.Native.Nat.{ℕ, zero, suc}
 use mathlib.Core.Path.{_≡_, refl, sym, ap, _∙_}
 use mathlib.Core.Bool.{cond}

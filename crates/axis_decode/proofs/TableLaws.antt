@@ -1,4 +1,4 @@
--- The laws of the three transition tables: document 01, "A port sample", Decode. Their rule is one test, computed at every pair of codes.
+-- The laws of the three transition tables: docs/RULES.md, "A port sample", Decode. Their rule is one test, computed at every pair of codes.
 use Prim.Native.Nat.{ℕ, suc, _+_, _/_, _%_, _<_}
 use mathlib.Core.Path.{_≡_, refl, sym, ap, _∙_}
 use mathlib.Core.Bool.{Bool, true, false, cond, not, _&&_, _||_, Bool·beq, true≢false}

@@ -1,4 +1,4 @@
--- The transition tables: document 01, "A port sample", Decode.
+-- The transition tables: docs/RULES.md, "A port sample", Decode.
 use Prim.Native.Nat.{ℕ, _+_, _*_, _/_, _%_}
 use mathlib.Core.Bool.{Bool, true, false, cond, not, _&&_}
 use mathlib.Core.List.{List, [], _∷_}

@@ -1,4 +1,4 @@
--- The laws of the filter of one line: document 01, "A port sample", Filter.
+-- The laws of the filter of one line: docs/RULES.md, "A port sample", Filter.
 use Prim.Native.Nat.{ℕ, _+_, _<_}
 use mathlib.Core.Path.{_≡_, refl}
 use mathlib.Core.Bool.{Bool, true, false, cond, not, Bool·beq}

@@ -1,4 +1,4 @@
--- The filter: document 01, "A port sample", Filter.
+-- The filter: docs/RULES.md, "A port sample", Filter.
 use Prim.Native.Nat.{ℕ, _+_, _<_}
 use mathlib.Core.Bool.{Bool, cond, not, Bool·beq}
 use lib.Dec.{eqb}

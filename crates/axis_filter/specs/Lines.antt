@@ -1,4 +1,4 @@
--- The three lines and the raw levels of a sample: document 01, "A port sample".
+-- The three lines and the raw levels of a sample: docs/RULES.md, "A port sample".
 use Prim.Native.Nat.{ℕ}
 use mathlib.Core.Bool.{Bool}
 use Rattle.fields.specs.Field.{flagOf}

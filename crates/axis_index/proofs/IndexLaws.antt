@@ -1,4 +1,4 @@
--- The laws of the index line: document 01, "A port sample", Index.
+-- The laws of the index line: docs/RULES.md, "A port sample", Index.
 use Prim.Native.Nat.{ℕ, suc, _+_, _*_, _-_, _/_, _%_, _^_, _<_, _≤_}
 use native.Mathlib.Nat.{mod-lt, mod-eq-of-lt, mod-self, add-mul-mod-self-right, div-add-mod'}
 use native.Mathlib.Omega.{arith}

@@ -1,4 +1,4 @@
--- The index line: document 01, "A port sample", Index.
+-- The index line: docs/RULES.md, "A port sample", Index.
 use Prim.Native.Nat.{ℕ, _%_}
 use mathlib.Core.Bool.{Bool, not, _&&_}
 use lib.Dec.{eqb, ltb}

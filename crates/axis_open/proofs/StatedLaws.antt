@@ -1,4 +1,4 @@
--- What document 01 states of broken rows, "One row, four words", computed to its end.
+-- What docs/RULES.md states of broken rows, "One row, four words", computed to its end.
 use mathlib.Core.Path.{_≡_, refl}
 use mathlib.Core.Bool.{true, false}
 use mathlib.Core.List.{[], _∷_, map}

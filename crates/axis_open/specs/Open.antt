@@ -1,4 +1,4 @@
--- Whether a row is broken, by what it is: document 01, "One row, four words".
+-- Whether a row is broken, by what it is: docs/RULES.md, "One row, four words".
 use mathlib.Core.Bool.{Bool, true, false}
 use Rattle.axis_sound.specs.declared.Status.{Status}
 use Rattle.axis_sound.specs.declared.Status.the-variants.{Empty, Sampled, Counter, Broken}

@@ -1,4 +1,4 @@
--- The laws of direction, age and period: document 01, "A port sample", Age and period.
+-- The laws of direction, age and period: docs/RULES.md, "A port sample", Age and period.
 use Prim.Native.Nat.{ℕ, _+_, _-_, _^_, _<_, _≤_, min}
 use mathlib.Core.Path.{_≡_, refl}
 use mathlib.Core.Bool.{Bool, true, false, cond, _&&_, and-false}

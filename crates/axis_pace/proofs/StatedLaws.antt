@@ -1,4 +1,4 @@
--- What document 01 states of direction, age and period, "A port sample", Age and period, computed to its end.
+-- What docs/RULES.md states of direction, age and period, "A port sample", Age and period, computed to its end.
 use Prim.Native.Nat.{ℕ, _-_, _^_}
 use mathlib.Core.Path.{_≡_, refl}
 use mathlib.Core.List.{List, [], _∷_, map}

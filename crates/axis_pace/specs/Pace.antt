@@ -1,4 +1,4 @@
--- Direction, age and period: document 01, "A port sample", Age and period.
+-- Direction, age and period: docs/RULES.md, "A port sample", Age and period.
 use Prim.Native.Nat.{ℕ, _+_, _-_, _^_, min}
 use mathlib.Core.Bool.{cond, _&&_}
 use lib.Dec.{eqb, ltb}

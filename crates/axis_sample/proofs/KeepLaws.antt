@@ -1,4 +1,4 @@
--- A sample keeps what a sampled axis is: document 01, "One row, four words" and "A port sample".
+-- A sample keeps what a sampled axis is: docs/RULES.md, "One row, four words" and "A port sample".
 use Prim.Native.Nat.{ℕ, _^_, _<_}
 use mathlib.Core.Path.{_≡_, refl, sym}
 use mathlib.Core.Bool.{Bool, true, false, cond, not, _&&_, _||_, true≢false}

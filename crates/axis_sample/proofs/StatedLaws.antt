@@ -1,5 +1,5 @@
--- What document 01 states of samples on an axis, "A port sample", computed to its end: the words of the row and the bits of the answer after
--- each sample's four bits.
+-- What docs/RULES.md states of samples on an axis, "A port sample", computed to its end: the words of the row and the bits of the answer
+-- after each sample's four bits.
 use Prim.Native.Nat.{ℕ, _+_, _*_, _^_}
 use mathlib.Core.Path.{_≡_, refl}
 use mathlib.Core.Bool.{Bool, true, false}

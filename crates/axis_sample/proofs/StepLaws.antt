@@ -1,4 +1,4 @@
--- The laws of a sample on an axis: document 01, "A port sample".
+-- The laws of a sample on an axis: docs/RULES.md, "A port sample".
 use mathlib.Core.Path.{_≡_, refl, ap, _∙_}
 use mathlib.Core.Bool.{Bool, true, false}
 use Rattle.axis.specs.declared.row.Axis.{Axis}

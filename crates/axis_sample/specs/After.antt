@@ -1,4 +1,4 @@
--- What a sample that primes leaves of an axis, part by part: document 01, "A port sample".
+-- What a sample that primes leaves of an axis, part by part: docs/RULES.md, "A port sample".
 use mathlib.Core.Path.{_≡_}
 use mathlib.Core.Bool.{true, false}
 use Rattle.axis.specs.Flags.{withPrimed}

@@ -1,4 +1,4 @@
--- A sample on an axis: document 01, "A port sample".
+-- A sample on an axis: docs/RULES.md, "A port sample".
 use mathlib.Core.Bool.{Bool, true, false}
 use mathlib.Core.List.{[], _∷_}
 use Rattle.axis.specs.Flags.{withPrimed}

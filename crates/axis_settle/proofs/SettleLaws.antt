@@ -1,4 +1,4 @@
--- The laws of a primed axis whose filtered lines are known: document 01, "A port sample".
+-- The laws of a primed axis whose filtered lines are known: docs/RULES.md, "A port sample".
 use mathlib.Core.Path.{_≡_, refl, sym, ap, _∙_}
 use mathlib.Core.Bool.{Bool, true, false, _&&_, and-true, and-false, or-true, or-false, true≢false}
 use lib.IntN.{_+ℤ_}

@@ -1,4 +1,4 @@
--- What a sample leaves of a primed axis, part by part: document 01, "A port sample".
+-- What a sample leaves of a primed axis, part by part: docs/RULES.md, "A port sample".
 use mathlib.Core.Path.{_≡_}
 use mathlib.Core.Bool.{true, false, _&&_, _||_}
 use lib.IntN.{pos}

@@ -1,4 +1,4 @@
--- What the filter, the tables and the index line make of an axis and a sample: document 01, "A port sample".
+-- What the filter, the tables and the index line make of an axis and a sample: docs/RULES.md, "A port sample".
 use Prim.Native.Nat.{ℕ}
 use mathlib.Core.Bool.{Bool, false}
 use lib.ListN.{getD}

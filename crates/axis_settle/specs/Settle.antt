@@ -1,4 +1,4 @@
--- A primed axis whose filtered lines are known: document 01, "A port sample".
+-- A primed axis whose filtered lines are known: docs/RULES.md, "A port sample".
 use Prim.Native.Nat.{_^_}
 use mathlib.Core.Bool.{true, cond, not, _&&_, _||_}
 use mathlib.Core.List.{[], _∷_}

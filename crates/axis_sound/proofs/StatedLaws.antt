@@ -1,4 +1,4 @@
--- What document 01 states of sound rows, "One row, four words", computed to its end: each line of it at its limits, on rows given as words.
+-- What docs/RULES.md states of sound rows, "One row, four words", computed to its end: each line at its limits, on rows given as words.
 use Prim.Native.Nat.{ℕ, zero, suc, _+_, _*_, _^_}
 use mathlib.Core.Path.{_≡_, refl}
 use mathlib.Core.List.{List, [], _∷_, map}

@@ -1,4 +1,4 @@
--- Which rows are sound: document 01, "One row, four words".
+-- Which rows are sound: docs/RULES.md, "One row, four words".
 use Prim.Native.Nat.{ℕ, _-_, _^_, _<_, _≤_}
 use mathlib.Core.Path.{_≡_}
 use mathlib.Core.Bool.{Bool, true, false, cond, not, _&&_, _||_}

@@ -1,4 +1,4 @@
--- What document 01 states, computed to its end: "One row, four words", on word 1 of its setup reading.
+-- What docs/RULES.md states, computed to its end: "One row, four words", on word 1 of its setup reading.
 use mathlib.Core.Path.{_≡_, refl}
 use mathlib.Core.Bool.{true, false}
 use mathlib.Core.List.{[], _∷_, map}

@@ -1,4 +1,4 @@
--- Where the sums of a sampled row begin: document 01, "A port sample", Count.
+-- Where the sums of a sampled row begin: docs/RULES.md, "A port sample", Count.
 use mathlib.Core.Path.{_≡_}
 use mathlib.Core.List.{List}
 use lib.IntN.{ℤ}

@@ -1,4 +1,4 @@
--- A counter among all that can happen to its row: document 01, "Calls that name one axis", Reading, and "A port sample". Newest first.
+-- A counter among all that can happen to its row: docs/RULES.md, "Calls that name one axis", Reading, and "A port sample". Newest first.
 use Prim.Native.Nat.{ℕ}
 use mathlib.Core.Path.{_≡_}
 use mathlib.Core.List.{List, [], _∷_}

@@ -1,4 +1,4 @@
--- Events that begin no phase: document 01, "Calls that name one axis", Setup and Erase, and "The saved record".
+-- Events that begin no phase: docs/RULES.md, "Calls that name one axis", Setup and Erase, and "The saved record".
 use mathlib.Core.Path.{_≡_}
 use mathlib.Core.Bool.{Bool, true, false}
 use mathlib.Core.List.{List, [], _∷_}

@@ -1,4 +1,4 @@
--- What holds of every phase: document 01, "One row, four words" and "Calls that name one axis".
+-- What holds of every phase: docs/RULES.md, "One row, four words" and "Calls that name one axis".
 use mathlib.Core.Path.{_≡_}
 use mathlib.Core.Bool.{true}
 use lib.IntN.{ℤ}

@@ -1,4 +1,4 @@
--- What the events of one axis tell, from any four words: document 01, "One row, four words", "A port sample"
+-- What the events of one axis tell, from any four words: docs/RULES.md, "One row, four words", "A port sample"
 -- and "Calls that name one axis". A phase begins with every setup, erase and restore that is accepted, and
 -- within a phase the configuration stays. Events have the newest first.
 use Prim.Native.Nat.{ℕ}

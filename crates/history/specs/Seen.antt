@@ -1,4 +1,4 @@
--- What a user sees of an axis, as its history tells it: document 01, "Calls that name one axis", View and Speed by period, and "The saved
+-- What a user sees of an axis, as its history tells it: docs/RULES.md, "Calls that name one axis", View and Speed by period, and "The saved
 -- record".
 use mathlib.Core.Bool.{false}
 use mathlib.Core.List.{List}

@@ -1,4 +1,4 @@
--- A shaft among the events of one axis: document 01, "A port sample", Count. Newest first.
+-- A shaft among the events of one axis: docs/RULES.md, "A port sample", Count. Newest first.
 use Prim.Native.Nat.{ℕ}
 use mathlib.Core.Path.{_≡_}
 use mathlib.Core.List.{List, map}

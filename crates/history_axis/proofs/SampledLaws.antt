@@ -1,4 +1,4 @@
--- A sampled axis stays one through a history: document 01, "One row, four words".
+-- A sampled axis stays one through a history: docs/RULES.md, "One row, four words".
 use mathlib.Core.Path.{subst}
 use mathlib.Core.List.{List, [], _∷_}
 use Rattle.axis_sound.specs.Sound.{SampledAxis}

@@ -1,4 +1,4 @@
--- What happens to a sampled axis of one configuration: document 01, "A port sample" and
+-- What happens to a sampled axis of one configuration: docs/RULES.md, "A port sample" and
 -- "Calls that name one axis". A history is a list of acts, newest first.
 use mathlib.Core.Path.{_≡_}
 use mathlib.Core.Bool.{true}

@@ -1,4 +1,4 @@
--- The entries of a history h that started from the axis x: document 01, "A port sample", Decode.
+-- The entries of a history h that started from the axis x: docs/RULES.md, "A port sample", Decode.
 use Prim.Native.Nat.{ℕ, _+_}
 use mathlib.Core.Bool.{Bool, cond, not, _&&_, Bool·beq}
 use mathlib.Core.List.{List, [], _∷_, _++_}

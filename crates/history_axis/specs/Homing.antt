@@ -1,4 +1,5 @@
--- Homing in a history h that started from the axis x: document 01, "A port sample", Index, and "Calls that name one axis", Arm and Preset.
+-- Homing in a history h that started from the axis x: docs/RULES.md, "A port sample", Index, and "Calls that name one axis", Arm
+-- and Preset.
 use mathlib.Core.Bool.{Bool, true, false, not, _&&_, _||_}
 use mathlib.Core.List.{List, [], _∷_}
 use Rattle.axis.specs.declared.row.Axis.{Axis}

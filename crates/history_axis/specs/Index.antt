@@ -1,4 +1,4 @@
--- The index check in a history h that started from the axis x: document 01, "A port sample", Index, and "Calls that name one axis",
+-- The index check in a history h that started from the axis x: docs/RULES.md, "A port sample", Index, and "Calls that name one axis",
 -- Acknowledge.
 use mathlib.Core.Bool.{Bool, false, not, _&&_, _||_}
 use mathlib.Core.List.{List, [], _∷_}

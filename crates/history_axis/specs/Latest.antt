@@ -1,4 +1,4 @@
--- The filter in terms of history: document 01, "A port sample", Filter. Raw samples have the newest first.
+-- The filter in terms of history: docs/RULES.md, "A port sample", Filter. Raw samples have the newest first.
 use Prim.Native.Nat.{ℕ, suc}
 use mathlib.Core.Bool.{Bool, cond, Bool·beq}
 use mathlib.Core.List.{List, [], _∷_}

@@ -1,4 +1,4 @@
--- The filtered lines after a history h that started from the axis x: document 01, "A port sample", Priming and Filter.
+-- The filtered lines after a history h that started from the axis x: docs/RULES.md, "A port sample", Priming and Filter.
 use Prim.Native.Nat.{ℕ}
 use mathlib.Core.Bool.{Bool, true, cond, not, _&&_}
 use mathlib.Core.List.{List, [], _∷_}

@@ -1,4 +1,4 @@
--- Direction, age and period after some entries, newest first, that started from the pace p: document 01, "A port sample", Age and period.
+-- Direction, age and period after some entries, newest first, that started from the pace p: docs/RULES.md, "A port sample", Age and period.
 use Prim.Native.Nat.{ℕ, _+_, _-_, _^_, min}
 use mathlib.Core.Bool.{cond, _&&_}
 use mathlib.Core.List.{List, [], _∷_}

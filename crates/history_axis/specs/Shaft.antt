@@ -1,4 +1,4 @@
--- A shaft as an encoder shows it: document 01, "A port sample", Count. Angles are whole quarter steps.
+-- A shaft as an encoder shows it: docs/RULES.md, "A port sample", Count. Angles are whole quarter steps.
 use Prim.Native.Nat.{ℕ, _≤_}
 use mathlib.Core.Path.{_≡_}
 use mathlib.Core.Bool.{Bool, false}

@@ -1,4 +1,4 @@
--- What a history starts from: document 01, "One row, four words".
+-- What a history starts from: docs/RULES.md, "One row, four words".
 use Prim.Native.Nat.{_^_, _≤_, _<_}
 use mathlib.Core.Path.{_≡_}
 use lib.ListN.{length}

@@ -1,4 +1,4 @@
--- Position, RANGE and doubles after a history h that started from the axis x: document 01, "A port sample", Count.
+-- Position, RANGE and doubles after a history h that started from the axis x: docs/RULES.md, "A port sample", Count.
 use Prim.Native.Nat.{ℕ, _+_, min}
 use mathlib.Core.Bool.{Bool, false, cond, not, _||_}
 use mathlib.Core.List.{List, [], _∷_, _++_}

@@ -1,4 +1,4 @@
--- The axis that a history tells, field by field: document 01, "One row, four words".
+-- The axis that a history tells, field by field: docs/RULES.md, "One row, four words".
 use mathlib.Core.List.{List, [], _∷_}
 use Rattle.position.specs.Position.{wordOf}
 use Rattle.axis.specs.declared.row.Axis.{Axis}

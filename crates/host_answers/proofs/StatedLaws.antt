@@ -1,4 +1,4 @@
--- What each answer shows to C, field by field, computed to its end: document 01, "Calls that name one axis" and "Reasons for saying no".
+-- What each answer shows to C, field by field, computed to its end: docs/RULES.md, "Calls that name one axis" and "Reasons for saying no".
 use Prim.Native.Nat.{ℕ}
 use mathlib.Core.Path.{refl}
 use mathlib.Core.Bool.{Bool, true, false}

@@ -1,4 +1,4 @@
--- What the calls answer to C: document 01, "Calls that name one axis" and "Reasons for saying no".
+-- What the calls answer to C: docs/RULES.md, "Calls that name one axis" and "Reasons for saying no".
 use lib.IntN.{ℤ, pos}
 use Rattle.refusal.specs.Refusal.{numberOf, foundIn}
 use Rattle.refusal.specs.declared.Refusal.{Refusal}
@@ -21,11 +21,11 @@ use Rattle.host_answers.specs.declared.view.ViewAnswer.{ViewAnswer}
 abbrev pub answerValue : ℤ → Answer
 answerValue v = record { refusal = 0; found = 0; value = v }
 
--- The paper's number and found number of a refusal, which has no value.
+-- The number and found number of a refusal, which has no value.
 abbrev pub answerRefused : Refusal → Answer
 answerRefused e = record { refusal = numberOf e; found = foundIn e; value = pos 0 }
 
--- The paper's number, found number and value of a calculation's answer.
+-- The number, found number and value of a calculation's answer.
 unfoldable pub answerTo : Reckoned → Answer
 answerTo a = record { refusal = refusalIn a; found = foundBy a; value = valueIn a }
 
@@ -33,19 +33,19 @@ answerTo a = record { refusal = refusalIn a; found = foundBy a; value = valueIn 
 abbrev pub answerSpeed : Speed → Answer
 answerSpeed s = answerTo (speedNumber s)
 
--- The paper's number and found number of a record test's answer, which has no value.
+-- The number and found number of a record test's answer, which has no value.
 unfoldable pub answerTest : Tested → Answer
 answerTest a = record { refusal = testedNumber a; found = testedFound a; value = pos 0 }
 
--- The paper's number and found number of a call that says only that it was done.
+-- The number and found number of a call that says only that it was done.
 unfoldable pub answerDone : Done → Answer
 answerDone a = record { refusal = doneNumber a; found = doneFound a; value = pos 0 }
 
--- The paper's number, found number and number of bytes of a save's answer.
+-- The number, found number and number of bytes of a save's answer.
 unfoldable pub answerWritten : Written → Answer
 answerWritten a = record { refusal = writtenNumber a; found = writtenFound a; value = pos (writtenBytes a) }
 
--- The paper's number, found number and values of a view's answer, each flag as 0 or 1.
+-- The number, found number and values of a view's answer, each flag as 0 or 1.
 unfoldable pub answerView : Viewed → ViewAnswer
 answerView a = record {
   refusal = viewNumber a;

@@ -1,4 +1,4 @@
--- What a call that makes another row, and answers only that it did, promises to C: document 01, "Calls that name one axis".
+-- What a call that makes another row, and answers only that it did, promises to C: docs/RULES.md, "Calls that name one axis".
 use Prim.Native.Nat.{ℕ}
 use mathlib.Core.List.{List}
 use Rattle.axis.specs.declared.row.Row.{Row}

@@ -1,4 +1,4 @@
--- What a port sample's answer shows to C, field by field, computed to its end: document 01, "A port sample".
+-- What a port sample's answer shows to C, field by field, computed to its end: docs/RULES.md, "A port sample".
 use Prim.Native.Nat.{ℕ}
 use mathlib.Core.Path.{_≡_, refl}
 use Rattle.refusal.specs.declared.Refusal.the-variants.{Length, Layout}

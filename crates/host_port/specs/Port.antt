@@ -1,4 +1,4 @@
--- What a port sample answers and promises to C: document 01, "A port sample".
+-- What a port sample answers and promises to C: docs/RULES.md, "A port sample".
 use Prim.Native.Nat.{ℕ}
 use mathlib.Core.List.{List}
 use Rattle.table_port.specs.Port.{Samples, sampledNumber, sampledFound, sampledMasks}
@@ -6,7 +6,7 @@ use Rattle.table_port.specs.declared.Sampled.{Sampled}
 use Rattle.host_answers.specs.Shown.{ShownToC}
 use Rattle.host_port.specs.declared.SampledAnswer.{SampledAnswer}
 
--- The paper's number, found number and masks of a port sample's answer.
+-- The number, found number and masks of a port sample's answer.
 unfoldable pub answerSampled : Sampled → SampledAnswer
 answerSampled a = record {
   refusal = sampledNumber a;

@@ -1,4 +1,4 @@
--- What a reading and a save promise to C: document 01, "Calls that name one axis" and "The saved record".
+-- What a reading and a save promise to C: docs/RULES.md, "Calls that name one axis" and "The saved record".
 use Prim.Native.Nat.{ℕ}
 use mathlib.Core.List.{List}
 use Rattle.table.specs.Call.{ReadingMakes, SaveMakes}

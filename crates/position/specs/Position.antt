@@ -1,4 +1,4 @@
--- Positions and the words that hold them: document 01, "One row, four words".
+-- Positions and the words that hold them: docs/RULES.md, "One row, four words".
 use mathlib.Core.Bool.{Bool, _&&_}
 use Prim.Native.Nat.{ℕ, suc, _+_, _-_, _^_, _<_}
 use lib.Dec.{ltb, leb}

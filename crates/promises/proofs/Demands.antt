@@ -59,7 +59,7 @@ use Rattle.promises.proofs.Restoring.{restores-save, saves-restored, ot
 use Rattle.promises.proofs.Apart.{ends-alike}
 use Rattle.promises.proofs.ToldAlone.{heard-told}
 
--- ---- 1. Never trapped, always ends: each refusal comes exactly when document 01 says, and nothing lent has changed
+-- ---- 1. Never trapped, always ends: each refusal comes exactly when docs/RULES.md says, and nothing lent has changed
 
 -- HEADLINE: a port sample is refused exactly where the slice is not four words for each of 1 to the most axes there may be, by LENGTH, and
 -- then every word stays.

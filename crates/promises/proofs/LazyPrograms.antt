@@ -1,4 +1,4 @@
--- The five lazy programs of document 01, "Programs that would slip past a lazy claim", and what shuts each out. Position always 0 is shut
+-- The five lazy programs of docs/RULES.md, "Programs that would slip past a lazy claim", and what shuts each out. Position always 0 is shut
 -- out by CountIsRight.position-told and ReadingsHold.readings-hold, an invented doubles number by CountIsRight.doubles-told.
 use mathlib.Core.Path.{_≡_, sym, ap, _∙_}
 use mathlib.Core.Logic.{_≢_}

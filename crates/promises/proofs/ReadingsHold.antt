@@ -19,7 +19,7 @@ use Rattle.axis_settle.specs.Settle.{settle}
 use Rattle.row_sample.specs.Sample.{stepBy, stepRow}
 use Rattle.promises.specs.Readings.{setUp, sampledBy, counted, levelled, Reading, _shows_, readings}
 
--- Each of the twelve shows what document 01 states.
+-- Each of the twelve shows what docs/RULES.md states.
 pub readings-hold : map (λ (r : Reading). r .gives) readings ≡ map (λ (r : Reading). r .stated) readings
 unfolding readings _shows_ setUp sampledBy counted levelled positionOf inRange modZ goodReading orRange nearestTo widened rounded
     goodCount goodSpeed speedByCount statusOf placeOf levelOf line filterLine filtered x1 x2 x4 tableOf entry isE moveTo countedWord

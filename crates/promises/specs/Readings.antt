@@ -1,4 +1,4 @@
--- The readings of document 01 that are marked P, in one table: "Readings to hold it against".
+-- The readings of docs/RULES.md that are marked P, in one table: "Readings to hold it against".
 use Prim.Native.Nat.{ℕ}
 use mathlib.Core.Bool.{Bool, true, false}
 use mathlib.Core.List.{List, [], _∷_}
@@ -42,7 +42,7 @@ counted r = counts (positionOf (r .w0)) (fieldOf 32 16 (r .w1))
 unfoldable pub levelled : Row → Shown
 levelled r = level (flagOf 19 (r .w1)) (positionOf (r .w0))
 
--- A reading: what the definitions give, and what document 01 states.
+-- A reading: what the definitions give, and what docs/RULES.md states.
 pub record Reading : Type 0 where
   pub gives : Shown
   pub stated : Shown
@@ -51,7 +51,7 @@ infix 20 _shows_
 unfoldable pub _shows_ : Shown → Shown → Reading
 a shows b = record { gives = a; stated = b }
 
--- The twelve readings, in document 01's order.
+-- The twelve readings, in the order of docs/RULES.md.
 unfoldable pub readings : List Reading
 readings =
     (counted (sampledBy (setUp X4 1) (0 ∷ 1 ∷ 3 ∷ 2 ∷ 0 ∷ [])) shows counts (pos 4) 0)

@@ -1,4 +1,4 @@
-// Runs the readings of document 01 that are not proved as theorems, through the public calls, and writes each on a line.
+// Runs the readings of docs/RULES.md that are not proved as theorems, through the public calls, and writes each on a line.
 mod say; // say.rt: answers as text
 
 use axis::kind::Kind;

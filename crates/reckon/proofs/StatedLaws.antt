@@ -1,4 +1,4 @@
--- What document 01 states, computed to its end: "Calls that name one axis", Reading, and "Reasons for saying no".
+-- What docs/RULES.md states, computed to its end: "Calls that name one axis", Reading, and "Reasons for saying no".
 use mathlib.Core.Path.{_≡_, refl}
 use mathlib.Core.Bool.{true}
 use mathlib.Core.List.{[], _∷_, map}

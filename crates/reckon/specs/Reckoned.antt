@@ -1,4 +1,4 @@
--- What a calculation answers, by document 01's numbers: "Reasons for saying no".
+-- What a calculation answers, by number: docs/RULES.md, "Reasons for saying no".
 use Prim.Native.Nat.{ℕ}
 use lib.IntN.{ℤ, pos}
 use Rattle.refusal.specs.Refusal.{numberOf, foundIn}

@@ -1,4 +1,4 @@
--- Widening a reading: document 01, "Calls that name one axis", Reading.
+-- Widening a reading: docs/RULES.md, "Calls that name one axis", Reading.
 use mathlib.Core.Bool.{Bool, cond, _&&_}
 use Prim.Native.Nat.{ℕ, _+_, _*_, _-_, _%_, _^_}
 use lib.Dec.{ltb, leb, eqb}

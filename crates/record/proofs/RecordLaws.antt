@@ -1,4 +1,4 @@
--- The saved record's promises: document 01, "The saved record".
+-- The saved record's promises: docs/RULES.md, "The saved record".
 use mathlib.Core.Path.{_≡_, refl, sym, ap, _∙_, subst}
 use mathlib.Core.Bool.{true, not, cond, _&&_}
 use mathlib.Core.List.{List, [], _∷_, _++_}
@@ -166,7 +166,7 @@ test-one s q r = one
 pub save-one : (b : List ℕ) (s : Saved) (q r : Written) (c d : List ℕ) → SavedInto b s q c → SavedInto b s r d → (q ≡ r) × (c ≡ d)
 save-one b s q r c d h k = (one (h .0) (k .0), one (h .1) (k .1))
 
--- ---- the saved reading of document 01, "Readings to hold it against"
+-- ---- the saved reading of docs/RULES.md, "Readings to hold it against"
 
 abbrev pub x4 : Saved
 x4 = record { config = record { kind = X4; depth = 3; width = 0; turn = 4096 }; position = negsuc 1 }

@@ -1,4 +1,4 @@
--- What document 01 states, computed to its end: "The saved record", and the numbers of its answers.
+-- What docs/RULES.md states, computed to its end: "The saved record", and the numbers of its answers.
 use mathlib.Core.Path.{_≡_, refl}
 use mathlib.Core.List.{List, [], _∷_, map}
 use Prim.Native.Nat.{ℕ}

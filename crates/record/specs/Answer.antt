@@ -1,4 +1,4 @@
--- The answers of reading, testing and saving a record, in numbers: document 01, "Reasons for saying no".
+-- The answers of reading, testing and saving a record, in numbers: docs/RULES.md, "Reasons for saying no".
 use Prim.Native.Nat.{ℕ}
 use lib.IntN.{pos}
 use Rattle.refusal.specs.Refusal.{numberOf, foundIn}

@@ -1,4 +1,4 @@
--- The opening of a record: document 01, "The saved record".
+-- The opening of a record: docs/RULES.md, "The saved record".
 use mathlib.Core.List.{List, [], _∷_}
 use Prim.Native.Nat.{ℕ}
 

@@ -1,4 +1,4 @@
--- The checks of a record, each by itself, and the answer that the first failing one gives: document 01, "The saved record", and the lines
+-- The checks of a record, each by itself, and the answer that the first failing one gives: docs/RULES.md, "The saved record", and the lines
 -- VALUE, LAYOUT and RECORD of "Reasons for saying no".
 use mathlib.Core.Path.{_≡_}
 use mathlib.Core.Bool.{Bool, true, false, not, cond, _&&_}

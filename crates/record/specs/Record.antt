@@ -1,4 +1,4 @@
--- The saved record, layout 1: document 01, "The saved record".
+-- The saved record, layout 1: docs/RULES.md, "The saved record".
 use mathlib.Core.Path.{_≡_}
 use mathlib.Core.Bool.{Bool, cond, _&&_}
 use mathlib.Core.List.{List, _++_}

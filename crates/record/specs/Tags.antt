@@ -1,4 +1,4 @@
--- The tags of a record's first field and of its last: document 01, "The saved record".
+-- The tags of a record's first field and of its last: docs/RULES.md, "The saved record".
 use Prim.Native.Nat.{ℕ}
 
 -- The layout number.

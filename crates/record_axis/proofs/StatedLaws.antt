@@ -1,4 +1,4 @@
--- What document 01 states, computed to its end: "The saved record", the fields of one axis.
+-- What docs/RULES.md states, computed to its end: "The saved record", the fields of one axis.
 use mathlib.Core.Path.{_≡_, refl}
 use mathlib.Core.List.{List, [], _∷_, _++_, map}
 use Prim.Native.Nat.{ℕ, _-_, _^_}

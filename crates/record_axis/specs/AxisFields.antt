@@ -1,4 +1,4 @@
--- The fields of one axis, 02 to 06, at any place of a slice or a buffer: document 01, "The saved record".
+-- The fields of one axis, 02 to 06, at any place of a slice or a buffer: docs/RULES.md, "The saved record".
 use mathlib.Core.Bool.{Bool, cond, _||_}
 use mathlib.Core.List.{List, _++_}
 use Prim.Native.Nat.{ℕ}

@@ -1,4 +1,4 @@
--- What a record says of an axis, and its limits: document 01, "The saved record".
+-- What a record says of an axis, and its limits: docs/RULES.md, "The saved record".
 use mathlib.Core.Bool.{Bool, _&&_}
 use Prim.Native.Nat.{ℕ}
 use mir.Syntax.{w64}

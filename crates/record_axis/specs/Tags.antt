@@ -1,4 +1,4 @@
--- The tags of an axis's fields: document 01, "The saved record".
+-- The tags of an axis's fields: docs/RULES.md, "The saved record".
 use Prim.Native.Nat.{ℕ}
 
 -- The kind of an axis.

@@ -46,7 +46,7 @@ told-apart r s n f = sym (again r .0) ∙ rw (n, f) (again s .0)
 pub in-place : (r : Refusal) → numberOf (getD checked (placeIn checked (numberOf r)) Length) ≡ numberOf r
 in-place r = again r .1
 
--- That order is the one of the paper's table, line by line.
+-- That order is that of the table in docs/RULES.md, line by line.
 pub in-table : map numberOf checked ≡ 1 ∷ 2 ∷ 3 ∷ 4 ∷ 5 ∷ 6 ∷ 7 ∷ 8 ∷ 9 ∷ 10 ∷ 11 ∷ 12 ∷ []
 in-table = refl
 

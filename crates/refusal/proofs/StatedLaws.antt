@@ -1,4 +1,4 @@
--- What document 01 states, computed to its end: "Reasons for saying no".
+-- What docs/RULES.md states, computed to its end: "Reasons for saying no".
 use mathlib.Core.Path.{_≡_, refl}
 use mathlib.Core.List.{List, [], _∷_, map}
 use Prim.Native.Nat.{ℕ}

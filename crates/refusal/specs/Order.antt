@@ -1,4 +1,4 @@
--- The order in which reasons are checked, as data: document 01, "Reasons for saying no". It does not go by their numbers.
+-- The order in which reasons are checked, as data: docs/RULES.md, "Reasons for saying no". It does not go by their numbers.
 use Prim.Native.Nat.{ℕ, suc, _<_}
 use mathlib.Core.Path.{_≡_}
 use mathlib.Core.Logic.{_⊎_}

@@ -1,4 +1,4 @@
--- The reasons for saying no: document 01, "Reasons for saying no".
+-- The reasons for saying no: docs/RULES.md, "Reasons for saying no".
 use Prim.Native.Nat.{ℕ}
 use Rattle.refusal.specs.declared.Refusal.{Refusal}
 use Rattle.refusal.specs.declared.Refusal.the-variants.{Length, Axis, Broken, Empty, Kind, Value}

@@ -1,4 +1,4 @@
-// The reasons for saying no, and the numbers that document 01 gives them.
+// The reasons for saying no, and the numbers that docs/RULES.md gives them.
 ghost use mathlib.Core.Path.{_≡_};
 ghost use Rattle.refusal.specs.Refusal.{numberOf, foundIn};
 

@@ -1,4 +1,4 @@
--- What document 01 states of setup, erase, preset, arm and acknowledge, computed to its end, word by word: "Calls that name one axis".
+-- What docs/RULES.md states of setup, erase, preset, arm and acknowledge, computed to its end, word by word: "Calls that name one axis".
 use Prim.Native.Nat.{ℕ, _+_, _-_, _*_, _^_}
 use mathlib.Core.Path.{_≡_, refl}
 use mathlib.Core.List.{List, [], _∷_, map}
@@ -18,7 +18,7 @@ use Rattle.row_calls.specs.declared.answer.Changed.the-variants.{To, Kep
 
 -- ---- the form of every law of this kind
 
--- What a definition gives, and what document 01 says.
+-- What a definition gives, and what docs/RULES.md says.
 pub record Stated (A : Type 0) : Type 0 where
   pub gives : A
   pub says : A

@@ -1,4 +1,4 @@
--- What preset, arm and acknowledge do to the words of every row that they take, bit by bit: document 01, "Calls that name one axis".
+-- What preset, arm and acknowledge do to the words of every row that they take, bit by bit: docs/RULES.md, "Calls that name one axis".
 use Prim.Native.Nat.{ℕ, _+_, _*_, _^_}
 use native.Mathlib.Omega.{arith}
 use mathlib.Core.Path.{_≡_, refl, sym, subst, _∙_}

@@ -1,4 +1,4 @@
--- What the calls answer, by document 01's numbers: "Calls that name one axis" and "Reasons for saying no".
+-- What the calls answer, by number: docs/RULES.md, "Calls that name one axis" and "Reasons for saying no".
 use Prim.Native.Nat.{ℕ}
 use Rattle.refusal.specs.Refusal.{numberOf, foundIn}
 use Rattle.row_calls.specs.declared.answer.Changed.{Changed}

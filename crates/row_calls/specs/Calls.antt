@@ -1,4 +1,4 @@
--- What setup, erase, preset, arm and acknowledge make of the named row: document 01, "Calls that name one axis".
+-- What setup, erase, preset, arm and acknowledge make of the named row: docs/RULES.md, "Calls that name one axis".
 use Prim.Native.Nat.{ℕ}
 use mathlib.Core.Bool.{cond}
 use lib.IntN.{ℤ}

@@ -1,4 +1,4 @@
--- What an accepted call makes of an axis: document 01, "Calls that name one axis".
+-- What an accepted call makes of an axis: docs/RULES.md, "Calls that name one axis".
 use Prim.Native.Nat.{ℕ}
 use mathlib.Core.Path.{_≡_}
 use mathlib.Core.Bool.{true, false}

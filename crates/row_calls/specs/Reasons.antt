@@ -1,4 +1,4 @@
--- When a call that names one axis answers BROKEN, EMPTY and KIND: document 01, "Reasons for saying no".
+-- When a call that names one axis answers BROKEN, EMPTY and KIND: docs/RULES.md, "Reasons for saying no".
 use Prim.Native.Nat.{ℕ}
 use mathlib.Core.Path.{_≡_}
 use mathlib.Core.Logic.{_↔_}

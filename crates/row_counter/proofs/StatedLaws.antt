@@ -1,4 +1,4 @@
--- What document 01 states of a reading, computed to its end from four words: "Calls that name one axis", "Readings to hold it against".
+-- What docs/RULES.md states of a reading, computed to its end from four words: "Calls that name one axis", "Readings to hold it against".
 use Prim.Native.Nat.{_+_, _-_, _*_, _^_}
 use mathlib.Core.Path.{refl}
 use mathlib.Core.List.{[], _∷_}

@@ -1,4 +1,4 @@
--- A narrow counter through time: document 01, "Calls that name one axis", Reading. The shaft's true positions are listed newest first.
+-- A narrow counter through time: docs/RULES.md, "Calls that name one axis", Reading. The shaft's true positions are listed newest first.
 use Prim.Native.Nat.{ℕ, _*_, _^_, _<_}
 use mathlib.Core.Path.{_≡_}
 use mathlib.Core.Bool.{true}

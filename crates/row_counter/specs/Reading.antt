@@ -1,4 +1,4 @@
--- A reading of a narrow counter, on its row: document 01, "Calls that name one axis".
+-- A reading of a narrow counter, on its row: docs/RULES.md, "Calls that name one axis".
 use Prim.Native.Nat.{ℕ}
 use lib.IntN.{ℤ}
 use Rattle.position.specs.Position.{wordOf, positionOf}

@@ -1,4 +1,4 @@
--- The laws of a sample on a row: document 01, "A port sample".
+-- The laws of a sample on a row: docs/RULES.md, "A port sample".
 use Prim.Native.Nat.{ℕ}
 use native.Mathlib.Omega.{arith}
 use mathlib.Core.Path.{_≡_, refl, sym, ap, _∙_}

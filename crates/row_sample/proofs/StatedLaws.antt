@@ -1,4 +1,4 @@
--- What document 01 states of a sample on a row, "A port sample", computed to its end on rows given as words.
+-- What docs/RULES.md states of a sample on a row, "A port sample", computed to its end on rows given as words.
 use Prim.Native.Nat.{ℕ, _+_, _^_}
 use mathlib.Core.Path.{_≡_, refl}
 use mathlib.Core.Bool.{Bool, true, false}

@@ -1,4 +1,4 @@
--- A sample on a row: document 01, "A port sample".
+-- A sample on a row: docs/RULES.md, "A port sample".
 use Prim.Native.Nat.{ℕ}
 use mathlib.Core.Bool.{Bool, true, false}
 use Rattle.axis.specs.Row.{axisOf, rowOf}

@@ -1,4 +1,4 @@
--- What document 01 states of save and restore, computed to its end in words and bytes: "The saved record", "Readings to hold it against".
+-- What docs/RULES.md states of save and restore, computed to its end in words and bytes: "The saved record", "Readings to hold it against".
 use Prim.Native.Nat.{ℕ, _+_, _-_, _*_, _^_}
 use mathlib.Core.Path.{refl}
 use mathlib.Core.List.{List, [], _∷_, _++_}

@@ -1,4 +1,4 @@
--- Save and restore, on a row: document 01, "The saved record".
+-- Save and restore, on a row: docs/RULES.md, "The saved record".
 use Prim.Native.Nat.{ℕ}
 use mathlib.Core.List.{List}
 use Rattle.position.specs.Position.{wordOf, positionOf}

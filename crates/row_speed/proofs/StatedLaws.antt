@@ -1,4 +1,4 @@
--- What document 01 states of speed by period, computed to its end from four words: "Calls that name one axis".
+-- What docs/RULES.md states of speed by period, computed to its end from four words: "Calls that name one axis".
 use Prim.Native.Nat.{ℕ, _+_, _-_, _*_, _^_}
 use mathlib.Core.Path.{refl}
 use mathlib.Core.List.{[], _∷_}

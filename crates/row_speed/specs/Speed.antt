@@ -1,4 +1,4 @@
--- Speed by period, on a row: document 01, "Calls that name one axis".
+-- Speed by period, on a row: docs/RULES.md, "Calls that name one axis".
 use Prim.Native.Nat.{ℕ, max}
 use mathlib.Core.Bool.{cond}
 use lib.Dec.{eqb}

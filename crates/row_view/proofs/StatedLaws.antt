@@ -1,4 +1,4 @@
--- What document 01 states of a view, computed to its end from four words: "One row, four words", "Calls that name one axis".
+-- What docs/RULES.md states of a view, computed to its end from four words: "One row, four words", "Calls that name one axis".
 use Prim.Native.Nat.{ℕ, _+_, _-_, _^_}
 use mathlib.Core.Path.{refl}
 use mathlib.Core.Bool.{Bool, true, false}

@@ -1,4 +1,4 @@
--- View: what it shows of the named row, and its answer by document 01's numbers: "Calls that name one axis", "Reasons for saying no".
+-- View: what it shows of the named row, and its answer by number: docs/RULES.md, "Calls that name one axis", "Reasons for saying no".
 use Prim.Native.Nat.{ℕ}
 use mathlib.Core.Bool.{false}
 use lib.IntN.{pos}

@@ -1,4 +1,4 @@
--- When a call that names one axis is refused, for all calls at once, and that a refusal changes nothing: document 01, "Reasons for saying
+-- When a call that names one axis is refused, for all calls at once, and that a refusal changes nothing: docs/RULES.md, "Reasons for saying
 -- no".
 use Prim.Native.Nat.{ℕ, _≤_, _<_}
 use native.Mathlib.Omega.{arith}

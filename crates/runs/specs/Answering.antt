@@ -1,4 +1,4 @@
--- What a call answers on a row that it takes, line by line: document 01, "Calls that name one axis", "The saved record" and "Reasons for
+-- What a call answers on a row that it takes, line by line: docs/RULES.md, "Calls that name one axis", "The saved record" and "Reasons for
 -- saying no".
 use Prim.Native.Nat.{ℕ, _*_, _≤_, _<_, max}
 use mathlib.Core.Path.{_≡_}

@@ -1,4 +1,4 @@
--- What can happen to one axis, and what it makes of the axis's row: document 01, "A port sample" and "Calls that name one axis".
+-- What can happen to one axis, and what it makes of the axis's row: docs/RULES.md, "A port sample" and "Calls that name one axis".
 use Prim.Native.Nat.{ℕ}
 use mathlib.Core.List.{List, [], _∷_}
 use Rattle.axis.specs.declared.row.Row.{Row}

@@ -1,4 +1,4 @@
--- The calls that name one axis, as data: document 01, "Calls that name one axis" and "The saved record".
+-- The calls that name one axis, as data: docs/RULES.md, "Calls that name one axis" and "The saved record".
 -- What a call makes of the named row and what it answers is said here once, call by call.
 use Prim.Native.Nat.{ℕ}
 use mathlib.Core.Path.{_≡_}

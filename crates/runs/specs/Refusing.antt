@@ -1,4 +1,4 @@
--- When a call that names one axis is refused, for all calls at once: document 01, "Reasons for saying no".
+-- When a call that names one axis is refused, for all calls at once: docs/RULES.md, "Reasons for saying no".
 use Prim.Native.Nat.{ℕ, _≤_, _<_}
 use mathlib.Core.Path.{_≡_}
 use mathlib.Core.Logic.{_↔_, _≢_, _⊎_}

@@ -1,4 +1,4 @@
--- Runs of calls on a table: document 01, the calls of every section.
+-- Runs of calls on a table: docs/RULES.md, the calls of every section.
 use Prim.Native.Nat.{ℕ}
 use mathlib.Core.Path.{_≡_}
 use mathlib.Core.Bool.{cond}

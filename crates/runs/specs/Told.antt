@@ -1,4 +1,4 @@
--- What an axis is told: document 01, "A port sample", "Calls that name one axis" and "Reasons for saying no".
+-- What an axis is told: docs/RULES.md, "A port sample", "Calls that name one axis" and "Reasons for saying no".
 use Prim.Native.Nat.{ℕ}
 use mathlib.Core.Bool.{Bool}
 use mathlib.Core.List.{List}

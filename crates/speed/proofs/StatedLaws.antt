@@ -1,4 +1,4 @@
--- What document 01 states, computed to its end: "Calls that name one axis", Speed by count.
+-- What docs/RULES.md states, computed to its end: "Calls that name one axis", Speed by count.
 use mathlib.Core.Path.{_≡_, refl}
 use mathlib.Core.List.{List, [], _∷_, map}
 use Prim.Native.Nat.{ℕ, _*_}

@@ -1,4 +1,4 @@
--- Division to the nearest whole number: document 01, "Calls that name one axis", Speed by count.
+-- Division to the nearest whole number: docs/RULES.md, "Calls that name one axis", Speed by count.
 use mathlib.Core.Path.{_≡_}
 use Prim.Native.Nat.{ℕ, suc, _+_, _*_, _/_, _≤_}
 use lib.IntN.{ℤ, pos, negsuc, negℤ, natAbs, _-ℤ_, _*ℤ_}

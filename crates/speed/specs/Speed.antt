@@ -1,4 +1,4 @@
--- Speed by count, and how near it is: document 01, "Calls that name one axis", Speed by count.
+-- Speed by count, and how near it is: docs/RULES.md, "Calls that name one axis", Speed by count.
 use mathlib.Core.Bool.{Bool, cond, _&&_}
 use Prim.Native.Nat.{ℕ, _+_, _*_, _-_, _^_}
 use lib.Dec.{ltb, leb}

@@ -1,4 +1,4 @@
--- The laws of a reading and a save of the named axis: document 01, "Calls that name one axis".
+-- The laws of a reading and a save of the named axis: docs/RULES.md, "Calls that name one axis".
 use Prim.Native.Nat.{ℕ, _<_}
 use mathlib.Core.Path.{_≡_, refl, sym, ap, _∙_}
 use mathlib.Core.List.{List}

@@ -1,4 +1,4 @@
--- The order of the reasons in a restore, a view, a reading, a speed by period and a save: document 01, "Reasons for saying no".
+-- The order of the reasons in a restore, a view, a reading, a speed by period and a save: docs/RULES.md, "Reasons for saying no".
 use Prim.Native.Nat.{ℕ}
 use mathlib.Core.Path.{refl}
 use mathlib.Core.Logic.{_≢_, inl, inr}

@@ -1,4 +1,4 @@
--- A view, a reading, a speed by period and a save each have one outcome: document 01, "Programs that would slip past a lazy claim".
+-- A view, a reading, a speed by period and a save each have one outcome: docs/RULES.md, "Programs that would slip past a lazy claim".
 use Prim.Native.Nat.{ℕ}
 use mathlib.Core.Path.{_≡_}
 use mathlib.Core.List.{List}

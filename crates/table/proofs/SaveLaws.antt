@@ -1,4 +1,4 @@
--- The laws of a save into a lent buffer: document 01, "The saved record".
+-- The laws of a save into a lent buffer: docs/RULES.md, "The saved record".
 use Prim.Native.Nat.{ℕ, _<_, _≤_}
 use native.Mathlib.Omega.{arith}
 use mathlib.Core.Path.{_≡_, refl, sym, _∙_}

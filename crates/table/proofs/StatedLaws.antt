@@ -1,4 +1,4 @@
--- What document 01 states of the other calls on a table, computed to its end in words, bytes and numbers: "Calls that name one axis".
+-- What docs/RULES.md states of the other calls on a table, computed to its end in words, bytes and numbers: "Calls that name one axis".
 use Prim.Native.Nat.{ℕ, _+_, _-_, _*_, _^_}
 use mathlib.Core.Path.{_≡_, refl}
 use mathlib.Core.Bool.{true, false}

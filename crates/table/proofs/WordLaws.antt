@@ -1,4 +1,4 @@
--- A reading and a restore make rows of 64-bit words: document 01, "One row, four words".
+-- A reading and a restore make rows of 64-bit words: docs/RULES.md, "One row, four words".
 use Prim.Native.Nat.{ℕ}
 use mathlib.Core.Path.{_≡_, refl}
 use mathlib.Core.List.{List}

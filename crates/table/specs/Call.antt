@@ -1,4 +1,4 @@
--- What a view, a reading, a speed by period and a save promise: document 01, "Calls that name one axis".
+-- What a view, a reading, a speed by period and a save promise: docs/RULES.md, "Calls that name one axis".
 use Prim.Native.Nat.{ℕ, _≤_}
 use mathlib.Core.Path.{_≡_}
 use mathlib.Core.List.{List}

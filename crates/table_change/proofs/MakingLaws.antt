@@ -1,4 +1,4 @@
--- The laws of the calls that make another row of the named one, once for all of them: document 01, "Calls that name one axis".
+-- The laws of the calls that make another row of the named one, once for all of them: docs/RULES.md, "Calls that name one axis".
 use Prim.Native.Nat.{ℕ, _<_}
 use native.Mathlib.Omega.{arith}
 use mathlib.Core.Path.{_≡_, refl, ap, _∙_}

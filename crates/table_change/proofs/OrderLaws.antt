@@ -1,4 +1,4 @@
--- The order of the reasons in any call that names one axis, and in the five of this room: document 01, "Reasons for saying no".
+-- The order of the reasons in any call that names one axis, and in the five of this room: docs/RULES.md, "Reasons for saying no".
 use Prim.Native.Nat.{ℕ, _*_, _<_, _≤_}
 use native.Mathlib.Nat.{le-refl}
 use native.Mathlib.Omega.{arith}

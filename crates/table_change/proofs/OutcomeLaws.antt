@@ -1,4 +1,4 @@
--- The claim of a call that makes another row admits one outcome: document 01, "Programs that would slip past a lazy claim".
+-- The claim of a call that makes another row admits one outcome: docs/RULES.md, "Programs that would slip past a lazy claim".
 use Prim.Native.Nat.{ℕ}
 use mathlib.Core.Path.{_≡_}
 use mathlib.Core.List.{List}

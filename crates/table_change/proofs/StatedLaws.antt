@@ -1,4 +1,4 @@
--- What document 01 states of a call on a table, computed to its end word by word: "One row, four words", "Reasons for saying no".
+-- What docs/RULES.md states of a call on a table, computed to its end word by word: "One row, four words", "Reasons for saying no".
 use Prim.Native.Nat.{ℕ, _+_, _^_}
 use mathlib.Core.Path.{_≡_}
 use mathlib.Core.List.{List, [], _∷_}

@@ -1,4 +1,4 @@
--- A call on a table of 64-bit words leaves such words: document 01, "One row, four words".
+-- A call on a table of 64-bit words leaves such words: docs/RULES.md, "One row, four words".
 use Prim.Native.Nat.{ℕ}
 use mathlib.Core.Path.{_≡_, refl}
 use mathlib.Core.List.{List}

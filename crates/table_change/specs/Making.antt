@@ -1,4 +1,4 @@
--- What a call that makes another row of the named one promises: document 01, "Calls that name one axis".
+-- What a call that makes another row of the named one promises: docs/RULES.md, "Calls that name one axis".
 use Prim.Native.Nat.{ℕ, _/_}
 use mathlib.Core.Path.{_≡_}
 use mathlib.Core.Logic.{_≢_}

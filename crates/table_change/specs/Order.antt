@@ -1,4 +1,4 @@
--- The order of the reasons in a call that names one axis: document 01, "Reasons for saying no".
+-- The order of the reasons in a call that names one axis: docs/RULES.md, "Reasons for saying no".
 use Prim.Native.Nat.{ℕ, _<_, _≤_}
 use mathlib.Core.Path.{_≡_}
 use mathlib.Core.Logic.{_≢_, _↔_}

@@ -1,4 +1,4 @@
--- The laws of the masks that a port sample answers: document 01, "A port sample".
+-- The laws of the masks that a port sample answers: docs/RULES.md, "A port sample".
 use Prim.Native.Nat.{ℕ, zero, suc, _+_, _-_, _*_, _/_, _%_, _^_, _≤_, _<_}
 use native.Mathlib.Nat.{lt-of-lt-of-le, eq-or-lt-of-le, le-of-suc-le-suc, div-eq-of-lt, pow-suc, mul-add-div-right}
 use native.Mathlib.Omega.{arith}

@@ -1,4 +1,4 @@
--- The laws of a port sample on a table: document 01, "A port sample".
+-- The laws of a port sample on a table: docs/RULES.md, "A port sample".
 use Prim.Native.Nat.{ℕ, zero, suc, _+_, _*_, _≤_, _<_}
 use native.Mathlib.Nat.{add-zero, le-refl, eq-or-lt-of-le, le-of-suc-le-suc}
 use native.Mathlib.Numerals.{add-one}

@@ -1,4 +1,4 @@
--- What document 01 states of a port word and of the answer, "A port sample", computed to its end.
+-- What docs/RULES.md states of a port word and of the answer, "A port sample", computed to its end.
 use Prim.Native.Nat.{ℕ}
 use mathlib.Core.Path.{_≡_, refl}
 use mathlib.Core.Bool.{Bool, true, false}

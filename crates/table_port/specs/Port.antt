@@ -1,4 +1,4 @@
--- A port sample on a table: document 01, "A port sample".
+-- A port sample on a table: docs/RULES.md, "A port sample".
 use Prim.Native.Nat.{ℕ, zero, suc, _+_, _*_, _^_, _<_}
 use mathlib.Core.Path.{_≡_}
 use mathlib.Core.Bool.{Bool, false, cond}

@@ -1,4 +1,4 @@
--- The laws of the named row, and of the refusals LENGTH and AXIS: document 01, "Reasons for saying no".
+-- The laws of the named row, and of the refusals LENGTH and AXIS: docs/RULES.md, "Reasons for saying no".
 use Prim.Native.Nat.{ℕ, _+_, _*_, _≤_, _<_}
 use native.Mathlib.Omega.{arith}
 use mathlib.Core.Path.{_≡_, refl}

@@ -1,4 +1,4 @@
--- The laws of a table of rows: document 01, "One row, four words".
+-- The laws of a table of rows: docs/RULES.md, "One row, four words".
 use Prim.Native.Nat.{ℕ, zero, suc, _+_, _*_, _/_, _%_, _^_, _≤_, _<_}
 use native.Mathlib.Nat.{add-zero}
 use native.Mathlib.Omega.{arith}

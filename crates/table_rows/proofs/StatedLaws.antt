@@ -1,4 +1,4 @@
--- What document 01 states of a table, "One row, four words", computed to its end.
+-- What docs/RULES.md states of a table, "One row, four words", computed to its end.
 use Prim.Native.Nat.{ℕ}
 use mathlib.Core.Path.{_≡_, refl}
 use mathlib.Core.List.{List, [], _∷_, map}

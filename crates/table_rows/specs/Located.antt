@@ -1,4 +1,4 @@
--- The named row, and the refusals LENGTH and AXIS: document 01, "Reasons for saying no".
+-- The named row, and the refusals LENGTH and AXIS: docs/RULES.md, "Reasons for saying no".
 use Prim.Native.Nat.{ℕ}
 use mathlib.Core.Bool.{cond}
 use mathlib.Core.List.{List}

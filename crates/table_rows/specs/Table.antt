@@ -1,4 +1,4 @@
--- A table of axes in a slice of words: document 01, "One row, four words".
+-- A table of axes in a slice of words: docs/RULES.md, "One row, four words".
 use Prim.Native.Nat.{ℕ, _+_, _*_, _/_, _%_, _^_, _<_}
 use mathlib.Core.Bool.{cond, _&&_}
 use mathlib.Core.List.{List}

@@ -1,4 +1,4 @@
--- What document 01 states, computed to its end: "The saved record", one field, high byte first in its length and in its value.
+-- What docs/RULES.md states, computed to its end: "The saved record", one field, high byte first in its length and in its value.
 use mathlib.Core.Path.{_≡_, refl}
 use mathlib.Core.List.{[], _∷_}
 use Rattle.tagged.specs.declared.field.Head.the-variants.{Of, Cut}

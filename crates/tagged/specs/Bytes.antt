@@ -1,4 +1,4 @@
--- Numbers in bytes, high byte first: document 01, "The saved record".
+-- Numbers in bytes, high byte first: docs/RULES.md, "The saved record".
 use mathlib.Core.Bool.{Bool, true, false, _&&_}
 use mathlib.Core.List.{List, [], _∷_, _++_}
 use Prim.Native.Nat.{ℕ, zero, suc, _+_, _*_, _/_, _%_, _<_}

@@ -1,4 +1,4 @@
--- One field of a record, a head of tag and length and then the value: document 01, "The saved record".
+-- One field of a record, a head of tag and length and then the value: docs/RULES.md, "The saved record".
 use mathlib.Core.Bool.{Bool, cond, _&&_}
 use mathlib.Core.List.{List, _∷_, _++_}
 use Prim.Native.Nat.{ℕ, _+_}

@@ -1,4 +1,4 @@
--- The laws of decimal digits: document 01, "Trace program".
+-- The laws of decimal digits: docs/RULES.md, "Trace program".
 use Prim.Native.Nat.{ℕ, zero, suc, _+_, _-_, _*_, _/_, _%_, _^_, _≤_, _<_}
 use native.Mathlib.Nat.{pow-succ'}
 use native.Mathlib.Omega.{arith}

@@ -1,4 +1,4 @@
--- What document 01 states, computed to its end: "Trace program", byte for byte.
+-- What docs/RULES.md states, computed to its end: "Trace program", byte for byte.
 use Prim.Native.Nat.{ℕ, _+_, _≤_}
 use native.Mathlib.Nat.{zero-add}
 use native.Mathlib.Omega.{arith}

@@ -1,4 +1,4 @@
--- The laws of a report's text: document 01, "Trace program".
+-- The laws of a report's text: docs/RULES.md, "Trace program".
 use Prim.Native.Nat.{ℕ, suc, _+_, _/_, _%_, _^_, _≤_, _<_}
 use native.Mathlib.Omega.{arith}
 use mathlib.Core.Path.{_≡_, refl, ap, subst, _∙_}

@@ -1,4 +1,4 @@
--- A report as three lines of text: document 01, "Trace program".
+-- A report as three lines of text: docs/RULES.md, "Trace program".
 use Prim.Native.Nat.{ℕ, zero, suc, _+_, _*_, _-_, _/_, _%_, _≤_}
 use mathlib.Core.Path.{_≡_}
 use mathlib.Core.Bool.{cond}

@@ -1,4 +1,4 @@
--- The laws of the trace program's input: document 01, "Trace program".
+-- The laws of the trace program's input: docs/RULES.md, "Trace program".
 use Prim.Native.Nat.{ℕ, zero, suc, _+_, _-_, _≤_, _<_, min}
 use native.Mathlib.Omega.{arith}
 use mathlib.Core.Path.{_≡_, refl, sym, ap, subst, _∙_}
@@ -154,7 +154,7 @@ short-ends : {x : Trace} {t : Turn} → Ends x t → x .samples < 4294967295 →
 short-ends (last {x} {b} {d} o n) h = (b, d, o, n)
 short-ends (full g) h = absurd (omega arith)
 
--- The report of what was read is document 01's of those bytes.
+-- The report of what was read is the rules' report of those bytes.
 pub read-report : {t : Turn} (i : InputRead t) → reportOf (t .trace) ≡ inputReport (i .bytes)
 read-report i = ap reportOf (ends-fed (i .ends) ∙ reads-fed (i .reads)) ∙ rule (i .bytes)
 

@@ -1,5 +1,5 @@
--- What the trace program makes of its input: document 01, "Trace program". That a number is what a read answered and a list what it left in
--- the buffer, no contract of the kit can say; all that follows from the two is said here.
+-- What the trace program makes of its input: docs/RULES.md, "Trace program". That a number is what a read answered and a list what it left
+-- in the buffer, no contract of the kit can say; all that follows from the two is said here.
 use Prim.Native.Nat.{ℕ, _-_, _≤_, _<_, min}
 use mathlib.Core.Path.{_≡_}
 use mathlib.Core.List.{List, [], _++_}

@@ -1,4 +1,4 @@
--- What document 01 states of the trace program, computed to its end.
+-- What docs/RULES.md states of the trace program, computed to its end.
 use Prim.Native.Nat.{ℕ, min}
 use mathlib.Core.Path.{_≡_, refl}
 use mathlib.Core.List.{List, [], _∷_, map}

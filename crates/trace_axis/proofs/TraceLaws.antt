@@ -1,4 +1,4 @@
--- The laws of a trace: document 01, "Trace program".
+-- The laws of a trace: docs/RULES.md, "Trace program".
 use Prim.Native.Nat.{ℕ, zero, suc, _+_, _-_, _/_, _%_, _^_, _≤_, _<_, min}
 use native.Mathlib.Nat.{zero-add, add-zero, add-assoc}
 use native.Mathlib.Numerals.{add-one}

@@ -1,4 +1,4 @@
--- A trace of one axis, and what it reports: document 01, "Trace program".
+-- A trace of one axis, and what it reports: docs/RULES.md, "Trace program".
 use Prim.Native.Nat.{ℕ, _+_, _-_, _%_, _^_, min}
 use mathlib.Core.List.{List, [], _∷_, map}
 use lib.ListN.{length, take}
