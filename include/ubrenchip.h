@@ -5,7 +5,14 @@
  * no byte of a buffer. What the caller still owes: each pointer with its length is valid memory, aligned
  * for its type (a null pointer with length 0 is an empty slice); the two slices of a save or a restore do
  * not overlap; and nobody else touches that memory while a call runs. Nothing is kept between calls.
- * docs/HOSTS.md shows how to build and link.
+ *
+ * In an interrupt handler: every call may be made there. None waits, allocates, or keeps anything of its
+ * own, and each ends after a bounded number of steps (docs/HOSTS.md has stack and instructions). Only the
+ * memory is shared: a handler must not call with a table or a buffer that a call it interrupted is using.
+ * So where the handler samples, hold its interrupt off around every call on that table outside it; no
+ * other lock is needed. A call is not atomic: half done, a row is neither the old one nor the new one.
+ *
+ * docs/RULES.md says what every call does, docs/HOSTS.md how to build and link.
  */
 #ifndef UBRENCHIP_H
 #define UBRENCHIP_H
@@ -16,6 +23,39 @@
 #ifdef __cplusplus
 extern "C" {
 #endif
+
+/* The version of calls, rows, records and this header; CHANGELOG.md has its rule. */
+#define UBRENCHIP_VERSION "1.0.0"
+#define UBRENCHIP_VERSION_MAJOR 1
+#define UBRENCHIP_VERSION_MINOR 0
+#define UBRENCHIP_VERSION_PATCH 0
+
+/* The kinds of axis. */
+#define UBRENCHIP_X1 1      /* one count a cycle */
+#define UBRENCHIP_X2 2      /* the edges of A */
+#define UBRENCHIP_X4 4      /* every edge of A and B */
+#define UBRENCHIP_COUNTER 8 /* a narrow counter that is read */
+
+/* A table: uint64_t table[UBRENCHIP_ROW_WORDS * n], n from 1 to UBRENCHIP_MOST_AXES, zeroed. */
+#define UBRENCHIP_ROW_WORDS 4
+#define UBRENCHIP_MOST_AXES 16
+
+/* The bytes of a saved record: of a sampled axis, which is the longer one, and of a counter. */
+#define UBRENCHIP_RECORD_BYTES 34
+#define UBRENCHIP_COUNTER_RECORD_BYTES 27
+
+/* The limits of arguments; each is still allowed. */
+#define UBRENCHIP_LEAST_POSITION (-INT64_C(4611686018427387903)) /* -(2^62 - 1) */
+#define UBRENCHIP_MOST_POSITION INT64_C(4611686018427387903)     /* 2^62 - 1 */
+#define UBRENCHIP_LEAST_DEPTH 1
+#define UBRENCHIP_MOST_DEPTH 8
+#define UBRENCHIP_LEAST_WIDTH 2
+#define UBRENCHIP_MOST_WIDTH 32
+#define UBRENCHIP_MOST_TURN UINT32_C(4294967295)       /* counts per turn */
+#define UBRENCHIP_MOST_RATE 1000000                    /* samples a second; the least is 1 */
+#define UBRENCHIP_MOST_DIFFERENCE INT64_C(2147483647)  /* counts, either way */
+#define UBRENCHIP_MOST_SAMPLES UINT32_C(4294967295)    /* the least is 1 */
+#define UBRENCHIP_MOST_DOUBLES 65535                   /* where doubles stay */
 
 /* Why a call is refused. 0 is done. */
 enum ubrenchip_refusal {
@@ -28,7 +68,7 @@ enum ubrenchip_refusal {
     UBRENCHIP_VALUE = 6,     /* an argument or a record's value is outside its limits */
     UBRENCHIP_HALF = 7,      /* the reading lies exactly half a counter turn away */
     UBRENCHIP_RANGE = 8,     /* the position would leave its range */
-    UBRENCHIP_NO_PERIOD = 9, /* no two steps one way yet, so there is no speed by period */
+    UBRENCHIP_NO_PERIOD = 9, /* the last two steps give no period: see ubrenchip_speed_by_period */
     UBRENCHIP_ROOM = 10,     /* the buffer is too small */
     UBRENCHIP_LAYOUT = 11,   /* a record of another layout, whose number is in `found` */
     UBRENCHIP_RECORD = 12    /* not a record, or a misshapen one */
@@ -73,7 +113,10 @@ ubrenchip_answer ubrenchip_test_record(const uint8_t *record, size_t length);
  * (setup, erase and restore never do), then KIND, and then what each names below.
  */
 
-/* What a port sample answers: bit k of each mask is axis k's. All are 0 on a refusal. */
+/*
+ * What a port sample answers: bit k of each mask is axis k's. Masks are 64 bits wide here, whatever the
+ * number of axes; bits at and above UBRENCHIP_MOST_AXES are 0. All are 0 on a refusal.
+ */
 typedef struct ubrenchip_sampled {
     uint32_t refusal;
     uint32_t found;   /* 0 */
@@ -99,10 +142,10 @@ ubrenchip_answer ubrenchip_setup(uint64_t *table, size_t words, uint64_t axis, u
 /* Empties a row, whatever it held. */
 ubrenchip_answer ubrenchip_erase(uint64_t *table, size_t words, uint64_t axis);
 
-/* Sets the position and clears RANGE and HOMED. Refusal: VALUE. */
+/* Sets the position and clears RANGE and HOMED; sampled axes and counters. Refusal: VALUE. */
 ubrenchip_answer ubrenchip_preset(uint64_t *table, size_t words, uint64_t axis, int64_t position);
 
-/* Makes the next index rise home the axis. Sampled axes only. */
+/* Makes the next index rise home the axis: sets ARMED and clears HOMED. Sampled axes only. */
 ubrenchip_answer ubrenchip_arm(uint64_t *table, size_t words, uint64_t axis);
 
 /* Sets doubles to 0 and clears INDEX. Sampled axes only. */
@@ -113,8 +156,8 @@ typedef struct ubrenchip_viewed {
     uint32_t refusal;
     uint32_t found; /* 0 */
     int64_t position;
-    uint32_t kind;
-    uint32_t doubles;
+    uint32_t kind;    /* UBRENCHIP_X1, UBRENCHIP_X2, UBRENCHIP_X4 or UBRENCHIP_COUNTER */
+    uint32_t doubles; /* double steps since setup, restore or acknowledge, at most UBRENCHIP_MOST_DOUBLES */
     uint32_t primed;
     uint32_t armed;
     uint32_t homed;
@@ -129,7 +172,11 @@ ubrenchip_viewed ubrenchip_view(const uint64_t *table, size_t words, uint64_t ax
 /* A narrow counter's reading: stores and answers the position. Refusals: VALUE, HALF, RANGE. */
 ubrenchip_answer ubrenchip_reading(uint64_t *table, size_t words, uint64_t axis, uint64_t reading);
 
-/* Speed by period at `rate` samples a second, in thousandths of a count a second. Refusals: VALUE, NO PERIOD. */
+/*
+ * Speed by period at `rate` samples a second, in thousandths of a count a second. Sampled axes only.
+ * Refusals: VALUE, NO PERIOD. There is no period before the second step, after a step that turned back,
+ * after a double step, and after two steps that are 2^32 - 1 samples or more apart.
+ */
 ubrenchip_answer ubrenchip_speed_by_period(const uint64_t *table, size_t words, uint64_t axis, uint64_t rate);
 
 /* Saves an axis's configuration and position as a record, 34 or 27 bytes, whose number is answered. Refusal: ROOM. */

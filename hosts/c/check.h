@@ -6,9 +6,6 @@
 #include <stdio.h>
 #include "ubrenchip.h"
 
-#ifndef INT64_C
-#define INT64_C(n) n##LL
-#endif
 #define TOP INT64_C(4611686018427387903) /* 2^62 - 1 */
 
 static int checks, wrong;
