@@ -1,4 +1,4 @@
-//! The calls, the memory that is lent to them, and how each is made on either side.
+//! The calls, the memory that is lent to them, and how each is made of the library and of the reference.
 
 use crate::library;
 use crate::reference::{Axis, Masks, Reference, Refusal, MOST_AXES};
@@ -112,7 +112,7 @@ impl Memory {
     }
 
     /// The table and the buffer, to write.
-    fn lent(&mut self) -> (&mut [u64], &mut [u8]) {
+    pub fn lent(&mut self) -> (&mut [u64], &mut [u8]) {
         (&mut self.words[FRAME..][..self.table], &mut self.bytes[FRAME..][..self.buffer])
     }
 
@@ -129,7 +129,7 @@ impl Memory {
 pub enum Outcome {
     Answer(library::Answer),
     Sampled(library::Sampled),
-    View(library::View),
+    Viewed(library::Viewed),
 }
 
 impl Outcome {
@@ -137,7 +137,7 @@ impl Outcome {
         match self {
             Outcome::Answer(answer) => answer.refusal,
             Outcome::Sampled(sampled) => sampled.refusal,
-            Outcome::View(view) => view.refusal,
+            Outcome::Viewed(viewed) => viewed.refusal,
         }
     }
 }
@@ -147,7 +147,7 @@ pub fn proved(call: &Call, memory: &mut Memory) -> Outcome {
     let (table, bytes) = memory.lent();
     Outcome::Answer(match *call {
         Call::Sample { port } => return Outcome::Sampled(library::sample(table, port)),
-        Call::Look { axis } => return Outcome::View(library::look(table, axis)),
+        Call::Look { axis } => return Outcome::Viewed(library::look(table, axis)),
         Call::Setup { axis, kind, depth, width, turn } => library::setup(table, axis, kind, depth, width, turn),
         Call::Erase { axis } => library::erase(table, axis),
         Call::Preset { axis, position } => library::preset(table, axis, position),
@@ -169,7 +169,7 @@ pub fn plain(reference: &Reference, call: &Call, memory: &mut Memory) -> Outcome
     let done = |()| 0;
     answer(match *call {
         Call::Sample { port } => return sampled(reference.sample(table, port)),
-        Call::Look { axis } => return view(reference.look(table, axis)),
+        Call::Look { axis } => return viewed(reference.look(table, axis)),
         Call::Setup { axis, kind, depth, width, turn } => {
             reference.setup(table, axis, kind, depth, width, turn).map(done)
         }
@@ -212,11 +212,11 @@ fn sampled(result: Result<Masks, Refusal>) -> Outcome {
     })
 }
 
-fn view(result: Result<Axis, Refusal>) -> Outcome {
+fn viewed(result: Result<Axis, Refusal>) -> Outcome {
     let (refusal, found) = reason(&result);
     let axis = result.ok();
     let flag = |flag: fn(&Axis) -> bool| axis.as_ref().is_some_and(flag).into();
-    Outcome::View(library::View {
+    Outcome::Viewed(library::Viewed {
         refusal,
         found,
         position: axis.map_or(0, |axis| axis.position),

@@ -1,4 +1,5 @@
-//! The comparison: the same calls on both sides, and after each of them every field, word and byte.
+//! The comparison: the same calls on every side, and after each of them every field, word and byte. The sides are the
+//! proved library over its C interface, the same through the crate's safe calls, and the reference.
 
 use std::fmt;
 
@@ -6,8 +7,9 @@ use crate::call::{plain, proved, Call, Memory, Outcome};
 use crate::random::Random;
 use crate::reference::{Fault, Reference};
 use crate::scenario::Scenario;
+use crate::wrapped::wrapped;
 
-/// The names of document 01's reasons, at their numbers; 0 is done.
+/// The names of the reasons ("Reasons for saying no"), at their numbers; 0 is done.
 const REASONS: [&str; 13] = [
     "done",
     "LENGTH",
@@ -74,25 +76,27 @@ impl After {
     }
 }
 
-/// The first call on which the two sides differ.
+/// The first call on which the sides differ.
 pub struct Difference {
     /// How many calls it took, this one included.
     pub calls: u64,
     pub call: Call,
     before: Memory,
     proved: After,
+    wrapped: After,
     plain: After,
 }
 
 impl Difference {
-    /// Whether the proved library does here what the reference does without a fault.
+    /// Whether the proved library does here, either way, what the reference does without a fault.
     pub fn is_the_faults(&self) -> bool {
         let sane = Reference { fault: Fault::None };
-        self.proved == After::of(self.before.clone(), |memory| plain(&sane, &self.call, memory))
+        let sane = After::of(self.before.clone(), |memory| plain(&sane, &self.call, memory));
+        self.proved == sane && self.wrapped == sane
     }
 }
 
-/// Makes as many calls on both sides, or fewer if they come to differ.
+/// Makes as many calls on every side, or fewer if they come to differ.
 pub fn compare(seed: u64, calls: u64, fault: Fault) -> Result<Tally, Box<Difference>> {
     let reference = Reference { fault };
     let mut random = Random::new(seed);
@@ -105,10 +109,11 @@ pub fn compare(seed: u64, calls: u64, fault: Fault) -> Result<Tally, Box<Differe
         };
         let before = &scenario.memory;
         let proved = After::of(before.clone(), |memory| proved(&call, memory));
+        let wrapped = After::of(before.clone(), |memory| wrapped(&call, memory));
         let plain = After::of(before.clone(), |memory| plain(&reference, &call, memory));
-        if proved != plain {
+        if proved != plain || proved != wrapped {
             let before = before.clone();
-            return Err(Box::new(Difference { calls: tally.calls + 1, call, before, proved, plain }));
+            return Err(Box::new(Difference { calls: tally.calls + 1, call, before, proved, wrapped, plain }));
         }
         tally.add(&call, &plain.outcome);
         scenario.memory = plain.memory;
@@ -121,10 +126,14 @@ impl fmt::Display for Difference {
         writeln!(out, "call {}: {:?}, in hexadecimal {:x?}", self.calls, self.call, self.call)?;
         writeln!(out, "before:")?;
         show(out, &self.before, &self.before)?;
-        let sides = [("the proved library", &self.proved, &self.plain), ("the reference", &self.plain, &self.proved)];
-        for (name, side, other) in sides {
+        let sides = [
+            ("the proved library", &self.proved),
+            ("the crate's safe call", &self.wrapped),
+            ("the reference", &self.plain),
+        ];
+        for (name, side) in sides {
             writeln!(out, "{name}: {:?}", side.outcome)?;
-            show(out, &side.memory, &other.memory)?;
+            show(out, &side.memory, &self.proved.memory)?;
             if !side.memory.same_frame(&self.before) {
                 writeln!(out, "  * memory outside the table and the buffer was changed")?;
             }
@@ -133,7 +142,7 @@ impl fmt::Display for Difference {
     }
 }
 
-/// The table and the buffer; a star stands where the other side has them otherwise.
+/// The table and the buffer; a star stands where the other memory has them otherwise.
 fn show(out: &mut fmt::Formatter, memory: &Memory, other: &Memory) -> fmt::Result {
     let star = |same| if same { ' ' } else { '*' };
     writeln!(out, "    table of {} words", memory.table().len())?;

@@ -1,70 +1,8 @@
-//! The proved library as C programs see it: the declarations of include/ubrenchip.h, and a safe function for each.
+//! The proved library as C programs see it: a safe function for each declaration of include/ubrenchip.h, with its answer
+//! as it is.
 
-/// What most calls answer.
-#[repr(C)]
-#[derive(Clone, Copy, PartialEq, Eq, Debug)]
-pub struct Answer {
-    pub refusal: u32,
-    pub found: u32,
-    pub value: i64,
-}
-
-/// What a port sample answers.
-#[repr(C)]
-#[derive(Clone, Copy, PartialEq, Eq, Debug)]
-pub struct Sampled {
-    pub refusal: u32,
-    pub found: u32,
-    pub doubles: u64,
-    pub index: u64,
-    pub broken: u64,
-}
-
-/// What a view shows.
-#[repr(C)]
-#[derive(Clone, Copy, PartialEq, Eq, Debug)]
-pub struct View {
-    pub refusal: u32,
-    pub found: u32,
-    pub position: i64,
-    pub kind: u32,
-    pub doubles: u32,
-    pub primed: u32,
-    pub armed: u32,
-    pub homed: u32,
-    pub range: u32,
-    pub index: u32,
-    pub unused: u32,
-}
-
-mod c {
-    use super::{Answer, Sampled, View};
-
-    extern "C" {
-        pub fn ubrenchip_widen(width: u64, position: i64, reading: u64) -> Answer;
-        pub fn ubrenchip_speed_by_count(difference: i64, samples: u64, rate: u64) -> Answer;
-        pub fn ubrenchip_test_record(record: *const u8, length: usize) -> Answer;
-        pub fn ubrenchip_sample(table: *mut u64, words: usize, port: u64) -> Sampled;
-        pub fn ubrenchip_setup(
-            table: *mut u64,
-            words: usize,
-            axis: u64,
-            kind: u64,
-            depth: u64,
-            width: u64,
-            turn: u64,
-        ) -> Answer;
-        pub fn ubrenchip_erase(table: *mut u64, words: usize, axis: u64) -> Answer;
-        pub fn ubrenchip_preset(table: *mut u64, words: usize, axis: u64, position: i64) -> Answer;
-        pub fn ubrenchip_arm(table: *mut u64, words: usize, axis: u64) -> Answer;
-        pub fn ubrenchip_acknowledge(table: *mut u64, words: usize, axis: u64) -> Answer;
-        pub fn ubrenchip_view(table: *const u64, words: usize, axis: u64) -> View;
-        pub fn ubrenchip_reading(table: *mut u64, words: usize, axis: u64, reading: u64) -> Answer;
-        pub fn ubrenchip_speed_by_period(table: *const u64, words: usize, axis: u64, rate: u64) -> Answer;
-        pub fn ubrenchip_save(table: *const u64, words: usize, axis: u64, buffer: *mut u8, length: usize) -> Answer;
-        pub fn ubrenchip_restore(table: *mut u64, words: usize, axis: u64, record: *const u8, length: usize) -> Answer;
-    }
-}
+use ubrenchip::c;
+pub use ubrenchip::c::{Answer, Sampled, Viewed};
 
 /// The pointer that C passes for a slice: null where there is nothing.
 ///
@@ -116,7 +54,7 @@ pub fn acknowledge(table: &mut [u64], axis: u64) -> Answer {
     unsafe { c::ubrenchip_acknowledge(pointer(table), table.len(), axis) }
 }
 
-pub fn look(table: &mut [u64], axis: u64) -> View {
+pub fn look(table: &mut [u64], axis: u64) -> Viewed {
     unsafe { c::ubrenchip_view(pointer(table), table.len(), axis) }
 }
 

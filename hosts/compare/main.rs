@@ -1,6 +1,7 @@
-//! Holds the proved library, over its C interface, against an independent implementation in ordinary Rust.
+//! Holds the proved library, over its C interface and through the crate's safe calls, against an independent
+//! implementation in ordinary Rust.
 //!
-//!     compare [--seed N] [--calls N]            random calls on both sides; a difference fails it
+//!     compare [--seed N] [--calls N]            random calls on every side; a difference fails it
 //!     compare --faults [--seed N] [--calls N]   the same with each fault put into the Rust side; one not found fails it
 
 mod call;
@@ -11,6 +12,7 @@ mod readings;
 mod reference;
 mod rows;
 mod scenario;
+mod wrapped;
 
 use std::process::ExitCode;
 
@@ -18,6 +20,7 @@ use call::{plain, proved};
 use compare::compare;
 use random::Random;
 use reference::{Fault, Reference, Row};
+use wrapped::wrapped;
 
 struct Options {
     seed: u64,
@@ -73,7 +76,7 @@ fn random_rows(seed: u64) {
 fn no_difference(options: &Options) -> bool {
     match compare(options.seed, options.calls, Fault::None) {
         Err(difference) => {
-            print!("the two sides differ with seed {}\n{difference}", options.seed);
+            print!("the sides differ with seed {}\n{difference}", options.seed);
             false
         }
         Ok(tally) if !tally.missing().is_empty() => {
@@ -82,6 +85,7 @@ fn no_difference(options: &Options) -> bool {
         }
         Ok(tally) => {
             readings::readings(&mut |call, memory| proved(call, memory));
+            readings::readings(&mut |call, memory| wrapped(call, memory));
             println!("seed {}: {tally}; no difference", options.seed);
             true
         }
@@ -96,7 +100,7 @@ fn all_faults_found(options: &Options) -> bool {
                 println!("{name}: found after {} calls, in {}", difference.calls, difference.call.name());
             }
             Err(difference) => {
-                print!("{name}: the two sides differ without it, too, with seed {}\n{difference}", options.seed);
+                print!("{name}: the sides differ without it, too, with seed {}\n{difference}", options.seed);
                 all = false;
             }
             Ok(tally) => {

@@ -1,7 +1,7 @@
-//! Document 01's own readings ("Readings to hold it against"), each asked through calls.
+//! The readings of docs/RULES.md ("Readings to hold it against"), each asked through calls.
 
 use crate::call::{Call, Memory, Outcome};
-use crate::library::{Answer, Sampled, View};
+use crate::library::{Answer, Sampled, Viewed};
 
 const TOP: i64 = (1 << 62) - 1;
 const VALUE: u32 = 6;
@@ -51,9 +51,9 @@ impl Bench<'_> {
         }
     }
 
-    fn view(&mut self) -> View {
+    fn view(&mut self) -> Viewed {
         match (self.side)(&Call::Look { axis: 0 }, &mut self.memory) {
-            Outcome::View(view) => view,
+            Outcome::Viewed(viewed) => viewed,
             other => panic!("a view answered {other:?}"),
         }
     }

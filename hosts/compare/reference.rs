@@ -1,7 +1,7 @@
-//! Document 01 once more, in ordinary Rust: what the proved library is held against.
+//! The rules once more, in ordinary Rust: what the proved library is held against.
 //!
-//! It is written from the document's text alone and shares nothing with the proved code. Sections in quotes are the
-//! document's.
+//! It is written from the text of docs/RULES.md alone and shares nothing with the proved code. Sections in quotes are
+//! that text's.
 
 use std::ops::Range;
 
@@ -342,7 +342,7 @@ pub struct Masks {
     pub broken: u16,
 }
 
-/// An error that the document saw in the field, put in on purpose to show that the comparison finds it.
+/// An error seen in the field, put in on purpose to show that the comparison finds it.
 #[derive(Clone, Copy, PartialEq, Eq, Debug)]
 pub enum Fault {
     None,

@@ -1,9 +1,11 @@
 // Damaged records, judged three times: by the proved record test and by a proved restore, through the C ABI, and by an independent reading
-// of document 01, "The saved record". A refused restore has to keep the row. An accepted one has to leave the row that the record stands
+// of docs/RULES.md, "The saved record". A refused restore has to keep the row. An accepted one has to leave the row that the record stands
 // for, and the row has to be saved as the same bytes again. Prints one line of counts and `no difference`, or the first slice on which they
 // differ, and then exits with 1.
 use std::collections::BTreeSet;
 use std::process::exit;
+
+use ubrenchip::c::{ubrenchip_restore, ubrenchip_save, ubrenchip_test_record, Answer};
 
 const SEED: u64 = 0x1d0c_5eed;
 const RANDOM_PER_RECORD: usize = 3000;
@@ -12,49 +14,9 @@ const VALUE: u32 = 6;
 const LAYOUT: u32 = 11;
 const RECORD: u32 = 12;
 
-#[repr(C)]
-struct Tested {
-    refusal: u32,
-    found: u32,
-    value: i64,
-}
-
-extern "C" {
-    fn ubrenchip_test_record(slice: *const u8, length: usize) -> Tested;
-    fn ubrenchip_restore(
-        table: *mut u64,
-        words: usize,
-        axis: u64,
-        slice: *const u8,
-        length: usize,
-    ) -> Tested;
-    fn ubrenchip_save(
-        table: *const u64,
-        words: usize,
-        axis: u64,
-        buffer: *mut u8,
-        length: usize,
-    ) -> Tested;
-}
-
-// A refusal's number, 0 for none, and the layout number found.
-#[derive(PartialEq, Clone, Copy, Debug)]
-struct Answer {
-    refusal: u32,
-    found: u32,
-}
-
-fn answer(r: Tested) -> Answer {
-    assert_eq!(r.value, 0, "a record test and a restore have no value");
-    Answer {
-        refusal: r.refusal,
-        found: r.found,
-    }
-}
-
 fn tested(slice: &[u8]) -> Answer {
     // The slice is alive during the call, which only reads it.
-    answer(unsafe { ubrenchip_test_record(slice.as_ptr(), slice.len()) })
+    unsafe { ubrenchip_test_record(slice.as_ptr(), slice.len()) }
 }
 
 // The row that an accepted slice stands for.
@@ -79,9 +41,8 @@ fn restored(slice: &[u8]) -> (Answer, bool) {
     let broken = [u64::MAX; 4];
     let mut row = broken;
     // The row and the slice are alive during the call and do not overlap.
-    let r = answer(unsafe {
-        ubrenchip_restore(row.as_mut_ptr(), row.len(), 0, slice.as_ptr(), slice.len())
-    });
+    let r =
+        unsafe { ubrenchip_restore(row.as_mut_ptr(), row.len(), 0, slice.as_ptr(), slice.len()) };
     if r.refusal != 0 {
         return (r, row == broken);
     }
@@ -105,8 +66,13 @@ fn restored(slice: &[u8]) -> (Answer, bool) {
     )
 }
 
+// A refusal, or with 0 none; neither has a value.
 fn no(refusal: u32) -> Answer {
-    Answer { refusal, found: 0 }
+    Answer {
+        refusal,
+        found: 0,
+        value: 0,
+    }
 }
 
 // The independent reading: the shape of a record as a table of tags and lengths.
@@ -115,8 +81,8 @@ fn judged(slice: &[u8]) -> Answer {
         let number = u16::from_be_bytes([slice[3], slice[4]]);
         if number != 1 {
             return Answer {
-                refusal: LAYOUT,
                 found: number.into(),
+                ..no(LAYOUT)
             };
         }
     }
@@ -318,7 +284,7 @@ fn main() {
         let (restore, left) = restored(slice);
         if test != theirs || restore != theirs || !left {
             println!("damage: a difference at the slice {slice:02x?}, seed {SEED:#x}");
-            println!("tested {test:?}; restored {restore:?}, left as it should be: {left}; read from the paper {theirs:?}");
+            println!("tested {test:?}; restored {restore:?}, left as it should be: {left}; read from the rules {theirs:?}");
             exit(1);
         }
         match theirs.refusal {

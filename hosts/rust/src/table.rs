@@ -1,0 +1,147 @@
+//! The table, and the calls on it.
+
+use crate::answers::{Refusal, Sampled, View};
+use crate::c;
+
+/// Axes in words that the caller lends: 4n words for n axes, n from 1 to 16.
+///
+/// Words that are all 0 hold no axis yet; [`Table::setup`] and [`Table::restore`] put one there.
+/// Between calls the words are the library's own. They can be kept, copied and lent again, also
+/// after a restart: what stands in them is all there is.
+///
+/// The calls that name an axis refuse, in this order, [`Refusal::Length`], [`Refusal::Axis`],
+/// [`Refusal::Broken`] and [`Refusal::Empty`], and then what each names below. A refused call
+/// changes no word of the table and no byte of a buffer.
+#[derive(Debug)]
+pub struct Table<'a> {
+    words: &'a mut [u64],
+}
+
+// Each call into C gets the pointers and the true lengths of slices that are borrowed for as long
+// as it runs: to be written where the borrow is a mutable one, and then of no other. The header
+// promises that a call keeps to them, keeps nothing, and takes any words and bytes for what they
+// are. That is all that its `unsafe` asks for. Of an empty slice the pointer is one that nothing
+// may be read from, and the library reads nothing through a pointer with the length 0.
+impl<'a> Table<'a> {
+    /// A table in these words, whatever they hold.
+    ///
+    /// It refuses nothing: each call tests the length of the words and the row that it names.
+    pub fn new(words: &'a mut [u64]) -> Table<'a> {
+        Table { words }
+    }
+
+    /// The words, four for each axis.
+    pub fn words(&self) -> &[u64] {
+        self.words
+    }
+
+    /// Takes one sample of the port: axis k owns bits 4k to 4k + 3, which are A, B, Z and one that
+    /// is not read.
+    ///
+    /// It refuses Length, and nothing else: empty rows and counters are passed over, and a broken
+    /// row is marked in the answer and stops no other.
+    pub fn sample(&mut self, port: u64) -> Result<Sampled, Refusal> {
+        unsafe { c::ubrenchip_sample(self.words.as_mut_ptr(), self.words.len(), port) }.masks()
+    }
+
+    /// Sets an axis up anew at position 0, whatever the row held.
+    ///
+    /// [`KIND_X1`](crate::KIND_X1), [`KIND_X2`](crate::KIND_X2) and [`KIND_X4`](crate::KIND_X4)
+    /// take a depth of 1 to 8, width 0 and counts per turn of 0 to 2^32 - 1, 0 for no index check.
+    /// [`KIND_COUNTER`](crate::KIND_COUNTER) takes a width of 2 to 32, depth 0 and 0 counts per
+    /// turn.
+    ///
+    /// It refuses Length, Axis, and then Value where a number is outside of these.
+    pub fn setup(
+        &mut self,
+        axis: u64,
+        kind: u64,
+        depth: u64,
+        width: u64,
+        turn: u64,
+    ) -> Result<(), Refusal> {
+        let (table, words) = (self.words.as_mut_ptr(), self.words.len());
+        unsafe { c::ubrenchip_setup(table, words, axis, kind, depth, width, turn) }.done()
+    }
+
+    /// Empties a row, whatever it held.
+    ///
+    /// It refuses Length, then Axis.
+    pub fn erase(&mut self, axis: u64) -> Result<(), Refusal> {
+        unsafe { c::ubrenchip_erase(self.words.as_mut_ptr(), self.words.len(), axis) }.done()
+    }
+
+    /// Sets the position and clears RANGE and HOMED.
+    ///
+    /// It refuses Length, Axis, Broken, Empty, and then Value where the position is outside its
+    /// range, which [`POSITION_LIMIT`](crate::POSITION_LIMIT) ends on both sides.
+    pub fn preset(&mut self, axis: u64, position: i64) -> Result<(), Refusal> {
+        let (table, words) = (self.words.as_mut_ptr(), self.words.len());
+        unsafe { c::ubrenchip_preset(table, words, axis, position) }.done()
+    }
+
+    /// Makes the next index rise home the axis: sets ARMED and clears HOMED.
+    ///
+    /// It refuses Length, Axis, Broken, Empty, and then Kind for a counter.
+    pub fn arm(&mut self, axis: u64) -> Result<(), Refusal> {
+        unsafe { c::ubrenchip_arm(self.words.as_mut_ptr(), self.words.len(), axis) }.done()
+    }
+
+    /// Sets doubles to 0 and clears INDEX.
+    ///
+    /// It refuses Length, Axis, Broken, Empty, and then Kind for a counter.
+    pub fn acknowledge(&mut self, axis: u64) -> Result<(), Refusal> {
+        unsafe { c::ubrenchip_acknowledge(self.words.as_mut_ptr(), self.words.len(), axis) }.done()
+    }
+
+    /// Looks at an axis.
+    ///
+    /// It refuses Length, Axis, Broken, then Empty.
+    pub fn view(&self, axis: u64) -> Result<View, Refusal> {
+        unsafe { c::ubrenchip_view(self.words.as_ptr(), self.words.len(), axis) }.view()
+    }
+
+    /// Takes a narrow counter's reading: stores and answers the position that it says, the one
+    /// nearest to the last that has the reading as its low bits.
+    ///
+    /// It refuses Length, Axis, Broken, Empty, Kind for a sampled axis, Value where the reading has
+    /// more bits than the counter, Half where it lies exactly half a turn away, and then Range
+    /// where the position would leave its range.
+    pub fn reading(&mut self, axis: u64, reading: u64) -> Result<i64, Refusal> {
+        let (table, words) = (self.words.as_mut_ptr(), self.words.len());
+        unsafe { c::ubrenchip_reading(table, words, axis, reading) }.value()
+    }
+
+    /// The speed by the time between the last two steps one way, or since the last one if that is
+    /// longer, at `rate` samples a second; in thousandths of a count a second, to the nearest whole
+    /// number, halves away from zero.
+    ///
+    /// It refuses Length, Axis, Broken, Empty, Kind for a counter, Value where the rate is not 1 to
+    /// [`RATE_LIMIT`](crate::RATE_LIMIT), and then NoPeriod before two steps one way.
+    pub fn speed_by_period(&self, axis: u64, rate: u64) -> Result<i64, Refusal> {
+        let (table, words) = (self.words.as_ptr(), self.words.len());
+        unsafe { c::ubrenchip_speed_by_period(table, words, axis, rate) }.value()
+    }
+
+    /// Saves an axis's configuration and position as a record at the front of the buffer, and
+    /// answers how many bytes it has: [`RECORD_BYTES_SAMPLED`](crate::RECORD_BYTES_SAMPLED) or
+    /// [`RECORD_BYTES_COUNTER`](crate::RECORD_BYTES_COUNTER). It writes nothing beyond them.
+    ///
+    /// It refuses Length, Axis, Broken, Empty, and then Room where the buffer is shorter.
+    pub fn save(&self, axis: u64, buffer: &mut [u8]) -> Result<usize, Refusal> {
+        let (table, words) = (self.words.as_ptr(), self.words.len());
+        let (bytes, length) = (buffer.as_mut_ptr(), buffer.len());
+        let saved = unsafe { c::ubrenchip_save(table, words, axis, bytes, length) };
+        saved.value().map(|bytes| bytes as usize)
+    }
+
+    /// Sets an axis up from a record, the whole of the slice, whatever the row held: as a setup and
+    /// then a preset would.
+    ///
+    /// It refuses Length, Axis, and then what [`test_record`](crate::test_record) refuses.
+    pub fn restore(&mut self, axis: u64, record: &[u8]) -> Result<(), Refusal> {
+        let (table, words) = (self.words.as_mut_ptr(), self.words.len());
+        let (bytes, length) = (record.as_ptr(), record.len());
+        unsafe { c::ubrenchip_restore(table, words, axis, bytes, length) }.done()
+    }
+}
