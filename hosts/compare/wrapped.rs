@@ -28,13 +28,14 @@ pub fn wrapped(call: &Call, memory: &mut Memory) -> Outcome {
     })
 }
 
-/// The two numbers of a refusal, 0 and 0 where there is none.
+/// The two numbers of a refusal, 0 and 0 where there is none. The crate has a name for every reason.
 fn reason<T>(result: &Result<T, Refusal>) -> (u32, u32) {
     let Err(refusal) = result else {
         return (0, 0);
     };
     let found = match *refusal {
-        Refusal::Layout { found } | Refusal::Unknown { found, .. } => found,
+        Refusal::Layout { found } => found,
+        Refusal::Unknown { number, .. } => panic!("the crate has no name for the reason {number}"),
         _ => 0,
     };
     (refusal.number(), found)

@@ -9,8 +9,8 @@ use crate::c;
 /// The reasons have numbers, [`Refusal::number`], and are checked in the order of these, but that a
 /// record's checks have an order of their own (docs/RULES.md, "Reasons for saying no").
 ///
-/// It is no `std::error::Error`, since this crate needs no `std`; `refusal.to_string()` is one
-/// wherever a `Box<dyn Error>` is wanted.
+/// It is no `std::error::Error`, since this crate does without `std`; where a `Box<dyn Error>` is
+/// wanted, `refusal.to_string()` goes into one.
 #[derive(Clone, Copy, PartialEq, Eq, Hash, Debug)]
 pub enum Refusal {
     /// 1: the table is not 4n words, n from 1 to 16.
@@ -141,7 +141,7 @@ pub struct View {
     pub primed: bool,
     /// ARMED: the next index rise will set the position to 0.
     pub armed: bool,
-    /// HOMED: the position was set by an index rise, and no call has set it since.
+    /// HOMED: an index rise set the position to 0, and neither a preset nor an arm came since.
     pub homed: bool,
     /// RANGE: a step was not counted, since the position was at the end of its range.
     pub range: bool,

@@ -29,10 +29,10 @@ pub fn speed_by_count(difference: i64, samples: u64, rate: u64) -> Result<i64, R
 
 /// Whether a slice of bytes is a saved record, the whole of it.
 ///
-/// It refuses by the first of these that holds: Layout where the slice opens as a record of another
-/// layout does; Record where the first nine bytes are not the opening and a kind's field; Value
-/// where there is no such kind; Record where the rest has not the fields of that kind, and nothing
-/// after them; and then Value where the position, the depth or the width is outside its limits.
+/// It refuses Layout where the slice opens as a record of another layout does; Record where its
+/// first nine bytes are not the fields of a layout and a kind; Value where there is no such kind;
+/// Record where the rest is not the other fields of that kind, with nothing after them; and then
+/// Value where the position, the depth or the width is outside its limits.
 pub fn test_record(record: &[u8]) -> Result<(), Refusal> {
     // The slice is borrowed for as long as the call runs, which only reads it; an empty one has a
     // pointer that nothing may be read from, and the library reads nothing through it.

@@ -6,12 +6,11 @@ use crate::c;
 /// Axes in words that the caller lends: 4n words for n axes, n from 1 to 16.
 ///
 /// Words that are all 0 hold no axis yet; [`Table::setup`] and [`Table::restore`] put one there.
-/// Between calls the words are the library's own. They can be kept, copied and lent again, also
-/// after a restart: what stands in them is all there is.
+/// Between calls the words are the library's own. They can be copied and lent again: what stands in
+/// them is all there is.
 ///
-/// The calls that name an axis refuse, in this order, [`Refusal::Length`], [`Refusal::Axis`],
-/// [`Refusal::Broken`] and [`Refusal::Empty`], and then what each names below. A refused call
-/// changes no word of the table and no byte of a buffer.
+/// Each call says below what it refuses, in the order in which it checks. A refused call changes no
+/// word of the table and no byte of a buffer.
 #[derive(Debug)]
 pub struct Table<'a> {
     words: &'a mut [u64],
@@ -38,8 +37,8 @@ impl<'a> Table<'a> {
     /// Takes one sample of the port: axis k owns bits 4k to 4k + 3, which are A, B, Z and one that
     /// is not read.
     ///
-    /// It refuses Length, and nothing else: empty rows and counters are passed over, and a broken
-    /// row is marked in the answer and stops no other.
+    /// It refuses Length, and nothing else: empty rows and counters are passed over, a broken row is
+    /// marked in the answer and stops no other, and bits of axes that the table has not are ignored.
     pub fn sample(&mut self, port: u64) -> Result<Sampled, Refusal> {
         unsafe { c::ubrenchip_sample(self.words.as_mut_ptr(), self.words.len(), port) }.masks()
     }
@@ -113,11 +112,12 @@ impl<'a> Table<'a> {
     }
 
     /// The speed by the time between the last two steps one way, or since the last one if that is
-    /// longer, at `rate` samples a second; in thousandths of a count a second, to the nearest whole
-    /// number, halves away from zero.
+    /// longer, at `rate` samples a second; in thousandths of a count a second, below 0 for back, to
+    /// the nearest whole number, halves away from zero.
     ///
     /// It refuses Length, Axis, Broken, Empty, Kind for a counter, Value where the rate is not 1 to
-    /// [`RATE_LIMIT`](crate::RATE_LIMIT), and then NoPeriod before two steps one way.
+    /// [`RATE_LIMIT`](crate::RATE_LIMIT), and then NoPeriod where there were no two steps one way
+    /// since a setup, a turn back or a double step.
     pub fn speed_by_period(&self, axis: u64, rate: u64) -> Result<i64, Refusal> {
         let (table, words) = (self.words.as_ptr(), self.words.len());
         unsafe { c::ubrenchip_speed_by_period(table, words, axis, rate) }.value()
