@@ -31,31 +31,30 @@ extern "C" {
 #define UBRENCHIP_VERSION_PATCH 0
 
 /* The kinds of axis. */
-#define UBRENCHIP_X1 1      /* one count a cycle */
-#define UBRENCHIP_X2 2      /* the edges of A */
-#define UBRENCHIP_X4 4      /* every edge of A and B */
-#define UBRENCHIP_COUNTER 8 /* a narrow counter that is read */
+#define UBRENCHIP_KIND_X1 1      /* one count a cycle */
+#define UBRENCHIP_KIND_X2 2      /* the edges of A */
+#define UBRENCHIP_KIND_X4 4      /* every edge of A and B */
+#define UBRENCHIP_KIND_COUNTER 8 /* a narrow counter, which is read and not sampled */
 
-/* A table: uint64_t table[UBRENCHIP_ROW_WORDS * n], n from 1 to UBRENCHIP_MOST_AXES, zeroed. */
-#define UBRENCHIP_ROW_WORDS 4
+/* A table of n axes, n from 1 to UBRENCHIP_MOST_AXES: uint64_t table[UBRENCHIP_WORDS_A_ROW * n], zeroed. */
+#define UBRENCHIP_WORDS_A_ROW 4
 #define UBRENCHIP_MOST_AXES 16
 
-/* The bytes of a saved record: of a sampled axis, which is the longer one, and of a counter. */
-#define UBRENCHIP_RECORD_BYTES 34
-#define UBRENCHIP_COUNTER_RECORD_BYTES 27
+/* The bytes of a saved record; the first is room for any. */
+#define UBRENCHIP_RECORD_BYTES_SAMPLED 34
+#define UBRENCHIP_RECORD_BYTES_COUNTER 27
 
-/* The limits of arguments; each is still allowed. */
-#define UBRENCHIP_LEAST_POSITION (-INT64_C(4611686018427387903)) /* -(2^62 - 1) */
-#define UBRENCHIP_MOST_POSITION INT64_C(4611686018427387903)     /* 2^62 - 1 */
-#define UBRENCHIP_LEAST_DEPTH 1
-#define UBRENCHIP_MOST_DEPTH 8
-#define UBRENCHIP_LEAST_WIDTH 2
-#define UBRENCHIP_MOST_WIDTH 32
-#define UBRENCHIP_MOST_TURN UINT32_C(4294967295)       /* counts per turn */
-#define UBRENCHIP_MOST_RATE 1000000                    /* samples a second; the least is 1 */
-#define UBRENCHIP_MOST_DIFFERENCE INT64_C(2147483647)  /* counts, either way */
-#define UBRENCHIP_MOST_SAMPLES UINT32_C(4294967295)    /* the least is 1 */
-#define UBRENCHIP_MOST_DOUBLES 65535                   /* where doubles stay */
+/* The limits of what a call takes; each is itself still allowed. */
+#define UBRENCHIP_POSITION_LIMIT INT64_C(4611686018427387903) /* 2^62 - 1, either way */
+#define UBRENCHIP_DEPTH_LEAST 1
+#define UBRENCHIP_DEPTH_MOST 8
+#define UBRENCHIP_WIDTH_LEAST 2
+#define UBRENCHIP_WIDTH_MOST 32
+#define UBRENCHIP_TURN_LIMIT UINT32_C(4294967295)      /* counts per turn; 0 for no index check */
+#define UBRENCHIP_DIFFERENCE_LIMIT INT64_C(2147483647) /* counts, either way */
+#define UBRENCHIP_SAMPLES_LIMIT UINT32_C(4294967295)   /* samples; the least is 1 */
+#define UBRENCHIP_RATE_LIMIT 1000000                   /* samples a second; the least is 1 */
+#define UBRENCHIP_DOUBLES_LIMIT 65535                  /* where doubles stay */
 
 /* Why a call is refused. 0 is done. */
 enum ubrenchip_refusal {
@@ -156,8 +155,8 @@ typedef struct ubrenchip_viewed {
     uint32_t refusal;
     uint32_t found; /* 0 */
     int64_t position;
-    uint32_t kind;    /* UBRENCHIP_X1, UBRENCHIP_X2, UBRENCHIP_X4 or UBRENCHIP_COUNTER */
-    uint32_t doubles; /* double steps since setup, restore or acknowledge, at most UBRENCHIP_MOST_DOUBLES */
+    uint32_t kind;    /* UBRENCHIP_KIND_X1, _X2, _X4 or _COUNTER */
+    uint32_t doubles; /* double steps since setup, restore or acknowledge, at most UBRENCHIP_DOUBLES_LIMIT */
     uint32_t primed;
     uint32_t armed;
     uint32_t homed;

@@ -2,7 +2,7 @@
 #include <stdio.h>
 #include "ubrenchip.h"
 
-enum { AXES = 2, WORDS = UBRENCHIP_ROW_WORDS * AXES };
+enum { AXES = 2, WORDS = UBRENCHIP_WORDS_A_ROW * AXES };
 
 /* Whether a call was done; says which one was not, and why, by the number that docs/FITTER.md explains. */
 static int done(const char *call, uint32_t refusal)
@@ -16,7 +16,7 @@ int main(void)
 {
     static uint64_t table[WORDS]; /* zeroed: both axes are empty */
     for (unsigned axis = 0; axis < AXES; axis++)
-        if (!done("setup", ubrenchip_setup(table, WORDS, axis, UBRENCHIP_X4, 1, 0, 4096).refusal))
+        if (!done("setup", ubrenchip_setup(table, WORDS, axis, UBRENCHIP_KIND_X4, 1, 0, 4096).refusal))
             return 1;
 
     /* Axis 0 has bits 0 to 3 and turns forward; axis 1 has bits 4 to 7 and turns back. */
@@ -37,7 +37,7 @@ int main(void)
         printf("axis %u: position %lld, doubles %u\n", axis, (long long)viewed.position, (unsigned)viewed.doubles);
     }
 
-    uint8_t record[UBRENCHIP_RECORD_BYTES];
+    uint8_t record[UBRENCHIP_RECORD_BYTES_SAMPLED];
     ubrenchip_answer saved = ubrenchip_save(table, WORDS, 0, record, sizeof record);
     if (!done("save", saved.refusal))
         return 1;

@@ -1,6 +1,6 @@
-//! `ubrenchip::c` declares what include/ubrenchip.h declares: the same reasons, structs and calls,
-//! with the same numbers, fields and parameters. Both texts are read for it, and the header's
-//! declarations are put as Rust has them.
+//! The crate declares what include/ubrenchip.h declares: the same reasons, structs and calls, with
+//! the same numbers, fields and parameters, and the same limits under the same names. Both texts are
+//! read for it, and the header's declarations are put as Rust has them.
 
 use std::collections::BTreeSet;
 
@@ -120,4 +120,48 @@ fn the_calls_are_the_headers() {
         .collect();
     assert_eq!(ours, theirs);
     assert_eq!(ours.len(), 14);
+}
+
+/// The number that an expression of the header or of the crate's limits says.
+fn number(text: &str) -> i64 {
+    let plain = text.replace('_', "");
+    if let Some(power) = plain
+        .strip_prefix("(1 << ")
+        .and_then(|rest| rest.strip_suffix(") - 1"))
+    {
+        return (1 << power.parse::<u32>().expect("a power")) - 1;
+    }
+    let open = plain
+        .split_once('(')
+        .map_or(plain.as_str(), |(_, inside)| inside);
+    let digits = open.strip_suffix(')').unwrap_or(open);
+    digits.parse().expect("a number")
+}
+
+#[test]
+fn the_limits_are_the_headers() {
+    let header = include_str!("../../../include/ubrenchip.h");
+    let theirs: Vec<_> = header
+        .lines()
+        .filter_map(|line| line.strip_prefix("#define UBRENCHIP_")?.split_once(' '))
+        .filter(|(name, _)| !name.starts_with("VERSION"))
+        .map(|(name, text)| {
+            let text = text.split_once("/*").map_or(text, |(before, _)| before);
+            (name.to_string(), number(text.trim()))
+        })
+        .collect();
+    let ours: Vec<_> = between(include_str!("../src/limits.rs"), "pub const ", ";")
+        .map(|item| {
+            let (name, text) = item.split_once(": ").expect("a name and a type");
+            let (_, text) = text.split_once(" = ").expect("a number");
+            (name.to_string(), number(text))
+        })
+        .collect();
+    assert_eq!(sorted(ours.clone()), sorted(theirs));
+    assert_eq!(ours.len(), 18);
+}
+
+fn sorted(mut items: Vec<(String, i64)>) -> Vec<(String, i64)> {
+    items.sort();
+    items
 }
