@@ -1,7 +1,7 @@
 //! The rules once more, in ordinary Rust: what the proved library is held against.
 //!
-//! It is written from the text of docs/RULES.md alone and shares nothing with the proved code. Sections in quotes are
-//! that text's.
+//! It follows the text of docs/RULES.md and shares nothing with the proved code; what else was at hand when it was written
+//! is said in docs/DECISIONS.md. Sections in quotes are that text's.
 
 use std::ops::Range;
 

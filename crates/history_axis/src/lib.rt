@@ -1,1 +1,1 @@
-// What a whole history of samples and changes tells of one axis: theorems, nothing to run.
+// What a whole history of samples and changes tells of one axis: definitions and theorems, nothing to run.

@@ -1,6 +1,6 @@
 -- The three demands, in order: the twelve theorems that the rest of this repository is for. Each is written out in the definitions of
--- specs/ and proved in one line by the law that it cites. That every call ends and never traps, whatever it is lent, is what the check of
--- each function says, and no public call asks anything of its caller; what the calls answer and leave is what `Samples`, `Makes`,
+-- specs/ and proved in a line or two by the laws that it cites. That every call ends and never traps, whatever it is lent, is what the
+-- check of each function says, and no public call asks anything of its caller; what the calls answer and leave is what `Samples`, `Makes`,
 -- `ReadingMakes`, `SaveMakes`, `viewedIn` and `speedIn` promise, in the contracts of table_port, table_change and table. A run of calls is
 -- told by `tableRun` and `heard` of runs, and RunIs there says that each of its calls is what that call's contract promises.
 use Prim.Native.Nat.{ℕ, _+_, _*_, _≤_, _<_, min}

@@ -1,1 +1,1 @@
-// The promises: theorems about whole histories and whole tables. There is nothing to run.
+// The promises: definitions and theorems about whole histories and whole tables. There is nothing to run.

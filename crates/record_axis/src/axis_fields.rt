@@ -1,4 +1,4 @@
-// The fields of one axis, 02 to 06, read at any place of a slice as plain numbers, whatever their limits.
+// The fields of one axis, 02 to 06, read at any place of a slice as plain numbers; of their limits it looks at the kind's alone.
 ghost use mathlib.Core.Path.{_≡_};
 ghost use Rattle.record_axis.specs.AxisFields.{counterAt, sampledAt, knownKind, axisAt};
 use crate::tags::DEPTH;
