@@ -93,7 +93,7 @@ ubrenchip_answer ubrenchip_widen(uint64_t width, int64_t position, uint64_t read
 
 /*
  * The speed of a count difference over a number of samples at `rate` samples a second, in thousandths
- * of a count a second, to the nearest whole number, halves away from zero.
+ * of a count a second, rounded to the nearest; from the middle between two, away from zero.
  * Differences are -(2^31 - 1) to 2^31 - 1; samples 1 to 2^32 - 1; rates 1 to 1,000,000.
  * Refusal: VALUE.
  */

@@ -29,7 +29,7 @@ pub enum Refusal {
     Half,
     /// 8: the position would leave its range.
     Range,
-    /// 9: there were no two steps one way yet, so there is no speed by period.
+    /// 9: the last two steps give no period, so there is no speed by period.
     NoPeriod,
     /// 10: the buffer is too small for the record.
     Room,
@@ -104,7 +104,7 @@ impl fmt::Display for Refusal {
             Refusal::Value => "a number is outside its limits",
             Refusal::Half => "the reading lies exactly half a counter turn away",
             Refusal::Range => "the position would leave its range",
-            Refusal::NoPeriod => "there were no two steps one way yet",
+            Refusal::NoPeriod => "the last two steps give no period",
             Refusal::Room => "the buffer is too small for the record",
             Refusal::Layout { found } => {
                 return write!(out, "the record has another layout, number {found}")

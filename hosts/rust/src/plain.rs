@@ -17,7 +17,8 @@ pub fn widen(width: u64, position: i64, reading: u64) -> Result<i64, Refusal> {
 }
 
 /// The speed of a count difference over a number of samples at `rate` samples a second, in
-/// thousandths of a count a second, to the nearest whole number, halves away from zero.
+/// thousandths of a count a second, rounded to the nearest and from the middle between two away from
+/// zero.
 ///
 /// It refuses Value where the difference is past [`DIFFERENCE_LIMIT`](crate::DIFFERENCE_LIMIT)
 /// either way, the samples are not 1 to [`SAMPLES_LIMIT`](crate::SAMPLES_LIMIT) or the rate is not

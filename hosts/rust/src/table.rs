@@ -112,8 +112,8 @@ impl<'a> Table<'a> {
     }
 
     /// The speed by the time between the last two steps one way, or since the last one if that is
-    /// longer, at `rate` samples a second; in thousandths of a count a second, below 0 for back, to
-    /// the nearest whole number, halves away from zero.
+    /// longer, at `rate` samples a second; in thousandths of a count a second, below 0 for back,
+    /// rounded to the nearest and from the middle between two away from zero.
     ///
     /// It refuses Length, Axis, Broken, Empty, Kind for a counter, Value where the rate is not 1 to
     /// [`RATE_LIMIT`](crate::RATE_LIMIT), and then NoPeriod where there were no two steps one way
