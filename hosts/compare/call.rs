@@ -12,7 +12,7 @@ pub enum Call {
     Preset { axis: u64, position: i64 },
     Arm { axis: u64 },
     Acknowledge { axis: u64 },
-    Look { axis: u64 },
+    View { axis: u64 },
     Reading { axis: u64, reading: u64 },
     SpeedByPeriod { axis: u64, rate: u64 },
     Save { axis: u64 },
@@ -30,7 +30,7 @@ impl Call {
         "preset",
         "arm",
         "acknowledge",
-        "look",
+        "view",
         "reading",
         "speed by period",
         "save",
@@ -49,7 +49,7 @@ impl Call {
             Call::Preset { .. } => 3,
             Call::Arm { .. } => 4,
             Call::Acknowledge { .. } => 5,
-            Call::Look { .. } => 6,
+            Call::View { .. } => 6,
             Call::Reading { .. } => 7,
             Call::SpeedByPeriod { .. } => 8,
             Call::Save { .. } => 9,
@@ -147,7 +147,7 @@ pub fn proved(call: &Call, memory: &mut Memory) -> Outcome {
     let (table, bytes) = memory.lent();
     Outcome::Answer(match *call {
         Call::Sample { port } => return Outcome::Sampled(library::sample(table, port)),
-        Call::Look { axis } => return Outcome::Viewed(library::look(table, axis)),
+        Call::View { axis } => return Outcome::Viewed(library::view(table, axis)),
         Call::Setup { axis, kind, depth, width, turn } => library::setup(table, axis, kind, depth, width, turn),
         Call::Erase { axis } => library::erase(table, axis),
         Call::Preset { axis, position } => library::preset(table, axis, position),
@@ -169,7 +169,7 @@ pub fn plain(reference: &Reference, call: &Call, memory: &mut Memory) -> Outcome
     let done = |()| 0;
     answer(match *call {
         Call::Sample { port } => return sampled(reference.sample(table, port)),
-        Call::Look { axis } => return viewed(reference.look(table, axis)),
+        Call::View { axis } => return viewed(reference.view(table, axis)),
         Call::Setup { axis, kind, depth, width, turn } => {
             reference.setup(table, axis, kind, depth, width, turn).map(done)
         }

@@ -54,7 +54,7 @@ pub fn acknowledge(table: &mut [u64], axis: u64) -> Answer {
     unsafe { c::ubrenchip_acknowledge(pointer(table), table.len(), axis) }
 }
 
-pub fn look(table: &mut [u64], axis: u64) -> Viewed {
+pub fn view(table: &mut [u64], axis: u64) -> Viewed {
     unsafe { c::ubrenchip_view(pointer(table), table.len(), axis) }
 }
 

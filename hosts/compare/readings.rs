@@ -52,7 +52,7 @@ impl Bench<'_> {
     }
 
     fn view(&mut self) -> Viewed {
-        match (self.side)(&Call::Look { axis: 0 }, &mut self.memory) {
+        match (self.side)(&Call::View { axis: 0 }, &mut self.memory) {
             Outcome::Viewed(viewed) => viewed,
             other => panic!("a view answered {other:?}"),
         }

@@ -531,7 +531,7 @@ impl Reference {
     }
 
     /// The view of an axis: the kind, the position, the five flags and doubles of what is answered.
-    pub fn look(&self, table: &[u64], axis: u64) -> Result<Axis, Refusal> {
+    pub fn view(&self, table: &[u64], axis: u64) -> Result<Axis, Refusal> {
         live(row(table, axis)?)
     }
 

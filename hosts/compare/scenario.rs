@@ -89,7 +89,7 @@ impl Scenario {
                 self.memory.lend(&record(random));
                 Call::Restore { axis }
             }
-            _ => Call::Look { axis },
+            _ => Call::View { axis },
         }
     }
 

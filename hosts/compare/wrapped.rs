@@ -12,7 +12,7 @@ pub fn wrapped(call: &Call, memory: &mut Memory) -> Outcome {
     let done = |()| 0;
     answer(match *call {
         Call::Sample { port } => return sampled(table.sample(port)),
-        Call::Look { axis } => return viewed(table.view(axis)),
+        Call::View { axis } => return viewed(table.view(axis)),
         Call::Setup { axis, kind, depth, width, turn } => table.setup(axis, kind, depth, width, turn).map(done),
         Call::Erase { axis } => table.erase(axis).map(done),
         Call::Preset { axis, position } => table.preset(axis, position).map(done),
