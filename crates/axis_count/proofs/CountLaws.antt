@@ -94,6 +94,14 @@ counted Double w r e = (e, stays w)
 counted Forward w r e = counted-by (ltb w (2 ^ 63 - 1)) r w (w + 1) (pos 1) (λ t. up w) e
 counted Back w r e = counted-by (ltb 1 w) r w (w - 1) (negsuc 0) (λ t. down w (omega (arith, ltb-true))) e
 
+-- At position 0 with RANGE clear every entry counts, and RANGE stays clear.
+pub from-origin : (m : Move) → (positionOf (countedWord m (2 ^ 62)) ≡ worth m) × (countedRange m (2 ^ 62) false ≡ false)
+unfolding countedWord countedRange worth positionOf
+from-origin Still = (refl, refl)
+from-origin Forward = (refl, refl)
+from-origin Back = (refl, refl)
+from-origin Double = (refl, refl)
+
 -- Doubles grow by 1 at each double step, and stop at 65,535.
 pub doubles-count : (m : Move) (n : ℕ) → n ≤ 65535 → countedDoubles m n ≡ min 65535 (n + cond (isE m) 1 0)
 unfolding countedDoubles

@@ -85,6 +85,20 @@ isE Forward = false
 isE Back = false
 isE Double = true
 
+-- Whether an entry is +.
+unfoldable pub isP : Move → Bool
+isP Still = false
+isP Forward = true
+isP Back = false
+isP Double = false
+
+-- Whether an entry is -.
+unfoldable pub isM : Move → Bool
+isM Still = false
+isM Forward = false
+isM Back = true
+isM Double = false
+
 -- An entry as the code's tables of signed numbers have it.
 unfoldable pub mark : Move → ℤ
 mark Still = pos 0

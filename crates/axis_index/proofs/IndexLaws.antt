@@ -2,15 +2,41 @@
 use Prim.Native.Nat.{ℕ, suc, _+_, _*_, _-_, _/_, _%_, _^_, _<_, _≤_}
 use native.Mathlib.Nat.{mod-lt, mod-eq-of-lt, mod-self, add-mul-mod-self-right, div-add-mod'}
 use native.Mathlib.Omega.{arith}
-use mathlib.Core.Path.{_≡_, refl, ap, _∙_}
-use mathlib.Core.Bool.{false, not}
+use mathlib.Core.Path.{_≡_, refl, sym, ap, _∙_}
+use mathlib.Core.Bool.{Bool, true, false, not, Bool·beq, true≢false}
 use borrow.Author.Tests.{lt-ltb, le-ltb, ne-eqb, ltb-true, ltb-false}
 use lib.Dec.{eqb, ltb}
 use lib.IntN.{ℤ, pos, negsuc, natAbs}
 use Rattle.integers.specs.Integer.{modZ}
 use Rattle.integers.proofs.Balance.{Decided, yes, no, test}
 use Rattle.position.specs.Position.{positionOf}
-use Rattle.axis_index.specs.Index.{offTurn}
+use Rattle.axis_decode.specs.declared.Move.{Move}
+use Rattle.axis_decode.specs.declared.Move.the-variants.{Still, Forward, Back, Double}
+use Rattle.axis_index.specs.Index.{noEdge, edgeBy, offTurn}
+
+-- ---- the reference edge
+
+-- An edge is met one way at most.
+pub one-way : (m : Move) (old new : Bool) → edgeBy m old new .forward ≡ true → edgeBy m old new .backward ≡ false
+unfolding edgeBy
+one-way Still old new e = refl
+one-way Forward old new e = refl
+one-way Back old new e = absurd (true≢false (sym e))
+one-way Double old new e = refl
+
+-- Where Z stays there is none.
+pub no-change : (m : Move) (old new : Bool) → Bool·beq old new ≡ true → edgeBy m old new ≡ noEdge
+unfolding edgeBy
+no-change m true false e = absurd (true≢false (sym e))
+no-change m false true e = absurd (true≢false (sym e))
+no-change Still true true e = refl
+no-change Still false false e = refl
+no-change Forward true true e = refl
+no-change Forward false false e = refl
+no-change Back true true e = refl
+no-change Back false false e = refl
+no-change Double true true e = refl
+no-change Double false false e = refl
 
 -- ---- how far a position is from 0, by its word
 

@@ -14,9 +14,9 @@ use Rattle.axis_filter.specs.Filter.{Short}
 use Rattle.axis_decode.specs.declared.Move.{Move}
 use Rattle.axis_pace.specs.Pace.{pacedBy}
 use Rattle.axis_index.specs.Index.{offTurn}
-use Rattle.axis_settle.specs.Lines.{placeOf, line, linesOf, filtered, moveTo, rises}
+use Rattle.axis_settle.specs.Lines.{placeOf, line, linesOf, filtered, moveTo, edgeTo}
 use Rattle.axis_sample.specs.Step.{primedBy, advanced, outcome, stepAxis}
-use Rattle.axis_settle.specs.Settle.{settle}
+use Rattle.axis_settle.specs.Settle.{atEdge, withEntry, settle}
 use Rattle.axis_filter.specs.declared.Raw.{Raw}
 use Rattle.axis_filter.proofs.FilterLaws.{filter-short}
 use Rattle.axis_count.proofs.CountLaws.{count-keeps, doubles-below}
@@ -27,11 +27,11 @@ pub sampled-short : {x : Axis} → SampledAxis x → Short (x .config .depth) (l
 sampled-short g = record { runA = g .runA; runB = g .runB; runZ = g .runZ }
 
 -- ARMED and HOMED stay apart: homing clears the one as it sets the other.
-apart-step : (a h r : Bool) → a && h ≡ false → (a && not r) && (h || (a && r)) ≡ false
-apart-step true true r e = absurd (true≢false e)
-apart-step true false true e = refl
-apart-step true false false e = refl
-apart-step false h r e = refl
+apart-step : (edge a h : Bool) → a && h ≡ false → (not edge && a) && (h || (edge && a)) ≡ false
+apart-step true a h e = refl
+apart-step false true true e = absurd (true≢false e)
+apart-step false true false e = refl
+apart-step false false h e = refl
 
 -- INDEX is set only where there are counts per turn.
 index-step : (i c : Bool) (turn : ℕ) (o : Bool) → (i ≡ true → 0 < turn) → (i || (c && (ltb 0 turn && o))) ≡ true → 0 < turn
@@ -57,22 +57,37 @@ pace-kept m p s = record {
   age = age-below m (p .age);
 }
 
+-- So the index line leaves a position, ARMED and HOMED apart, and INDEX only with counts per turn.
+module _ (edge : Bool) (x : Axis) where
+  edge-word : Word (x .word) → Word (atEdge edge x .word)
+  unfolding atEdge
+  edge-word = home-word (edge && x .flags .armed)
+
+  edge-apart : x .flags .armed && x .flags .homed ≡ false → atEdge edge x .flags .armed && atEdge edge x .flags .homed ≡ false
+  unfolding atEdge
+  edge-apart = apart-step edge (x .flags .armed) (x .flags .homed)
+
+  edge-index : (x .flags .index ≡ true → 0 < x .config .turn) → atEdge edge x .flags .index ≡ true → 0 < x .config .turn
+  unfolding atEdge offTurn
+  edge-index = index-step (x .flags .index) (edge && not (x .flags .armed) && x .flags .homed) (x .config .turn) _
+
 keep-advance : (x : Axis) (s : Raw) → SampledAxis x → SampledAxis (advanced x s)
-unfolding settle filtered line placeOf offTurn
+unfolding settle atEdge withEntry filtered line placeOf
 keep-advance x s g =
-    let n = filtered x s in
-    let m = moveTo x n in
+    let m = moveTo x (filtered x s) in
+    let e = edgeTo x (filtered x s) in
+    let y = atEdge (e .backward) x in
+    let z = withEntry m (filtered x s) y in
     let d = x .config .depth in
-    let f = x .flags in
     record {
-      word = home-word (f .armed && rises x n) (count-keeps m (x .word) (g .word));
+      word = edge-word (e .forward) z (count-keeps m (y .word) (edge-word (e .backward) x (g .word)));
       config = g .config;
       runA = filter-short d (line x A) (levelOf s A) (g .runA);
       runB = filter-short d (line x B) (levelOf s B) (g .runB);
       runZ = filter-short d (line x Z) (levelOf s Z) (g .runZ);
-      apart = apart-step (f .armed) (f .homed) (rises x n) (g .apart);
+      apart = edge-apart (e .forward) z (edge-apart (e .backward) x (g .apart));
       pace = pace-kept m (x .pace) (g .pace);
-      index = index-step (f .index) (rises x n && not (f .armed) && f .homed) (x .config .turn) _ (g .index);
+      index = edge-index (e .forward) z (edge-index (e .backward) x (g .index));
       unprimed = λ e. absurd (true≢false e);
       doubles = doubles-below m (x .doubles) (g .doubles);
       levels = refl;

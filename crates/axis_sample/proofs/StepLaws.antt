@@ -6,8 +6,8 @@ use Rattle.axis_filter.specs.Lines.{Wire, A, B, Z, levelOf, three}
 use Rattle.axis_filter.specs.Filter.{filterLines}
 use Rattle.axis_decode.specs.Decode.{isE}
 use Rattle.axis_settle.specs.Lines.{placeOf, line, linesOf, filtered}
-use Rattle.axis_sample.specs.Step.{primedBy, moveOf, zRose, advanced, outcome, stepAxis}
-use Rattle.axis_settle.specs.Settle.{settle}
+use Rattle.axis_sample.specs.Step.{primedBy, moveOf, edgeMet, advanced, outcome, stepAxis}
+use Rattle.axis_settle.specs.Settle.{atEdge, withEntry, settle}
 use Rattle.axis_sample.specs.After.{Primed}
 use Rattle.axis_filter.specs.declared.Lines.{Lines}
 use Rattle.axis_filter.specs.declared.Raw.{Raw}
@@ -26,7 +26,7 @@ lines-are x s e = ap three e ∙ (λ i w. go w i)
 
 module _ (x : Axis) (s : Raw) where
   -- A sample on a primed axis.
-  pub step-primed : x .flags .primed ≡ true → stepAxis x s ≡ record { axis = advanced x s; double = isE (moveOf x s); index = zRose x s }
+  pub step-primed : x .flags .primed ≡ true → stepAxis x s ≡ record { axis = advanced x s; double = isE (moveOf x s); index = edgeMet x s }
   unfolding stepAxis outcome
   step-primed e = ap (λ (b : Bool). outcome b x s) e
 
@@ -37,7 +37,7 @@ module _ (x : Axis) (s : Raw) where
 
   -- After a sample the axis is primed.
   pub step-primes : stepAxis x s .axis .flags .primed ≡ true
-  unfolding stepAxis outcome settle primedBy
+  unfolding stepAxis outcome settle atEdge withEntry primedBy
   step-primes = go (x .flags .primed)
     where
       go : (b : Bool) → outcome b x s .axis .flags .primed ≡ true
@@ -46,7 +46,7 @@ module _ (x : Axis) (s : Raw) where
 
   -- The lines of a primed axis become the filtered ones.
   pub line-advance : (w : Wire) → line (advanced x s) w ≡ filtered x s w
-  unfolding line settle placeOf
+  unfolding line settle atEdge withEntry placeOf
   line-advance A = refl
   line-advance B = refl
   line-advance Z = refl
@@ -60,7 +60,7 @@ module _ (x : Axis) (s : Raw) where
 
 -- A sample leaves the configuration.
 pub step-config : (x : Axis) (s : Raw) → stepAxis x s .axis .config ≡ x .config
-unfolding stepAxis outcome settle primedBy
+unfolding stepAxis outcome settle atEdge withEntry primedBy
 step-config x s = go (x .flags .primed)
   where
     go : (b : Bool) → outcome b x s .axis .config ≡ x .config
@@ -72,4 +72,4 @@ pub priming : (x : Axis) (s : Raw) → x .flags .primed ≡ false → Primed x s
 unfolding primedBy
 priming x s h =
     rw (step-unprimed x s h)
-    (record { double = refl; rose = refl; lines = line-prime x s; word = refl; flags = refl; doubles = refl; pace = refl })
+    (record { double = refl; edge = refl; lines = line-prime x s; word = refl; flags = refl; doubles = refl; pace = refl })

@@ -11,7 +11,7 @@ use Rattle.axis_sample.specs.declared.step.Stepped.{Stepped}
 -- A sample that primes takes the three raw levels with no run, sets PRIMED, leaves all else, and sets no bit of the answer.
 pub record Primed (x : Axis) (s : Raw) (t : Stepped) : Type 0 where
   pub double : t .double ≡ false
-  pub rose : t .index ≡ false
+  pub edge : t .index ≡ false
   pub lines : (w : Wire) → line (t .axis) w ≡ record { level = levelOf s w; run = 0 }
   pub word : t .axis .word ≡ x .word
   pub flags : t .axis .flags ≡ withPrimed true (x .flags)

@@ -4,7 +4,8 @@ use mathlib.Core.List.{[], _∷_}
 use Rattle.axis.specs.Flags.{withPrimed}
 use Rattle.axis.specs.declared.row.Axis.{Axis}
 use Rattle.axis_decode.specs.Decode.{isE}
-use Rattle.axis_settle.specs.Lines.{filtered, moveTo, rises}
+use Rattle.axis_index.specs.Index.{met}
+use Rattle.axis_settle.specs.Lines.{filtered, moveTo, edgeTo}
 use Rattle.axis_settle.specs.Settle.{settle}
 use Rattle.axis_decode.specs.declared.Move.{Move}
 use Rattle.axis_filter.specs.declared.Raw.{Raw}
@@ -26,9 +27,9 @@ primedBy x s = record {
 abbrev pub moveOf : Axis → Raw → Move
 moveOf x s = moveTo x (filtered x s)
 
--- Whether a sample on a primed axis is an index rise.
-abbrev pub zRose : Axis → Raw → Bool
-zRose x s = rises x (filtered x s)
+-- Whether a sample on a primed axis is a reference edge.
+abbrev pub edgeMet : Axis → Raw → Bool
+edgeMet x s = met (edgeTo x (filtered x s))
 
 -- A primed axis after a sample.
 abbrev pub advanced : Axis → Raw → Axis
@@ -36,7 +37,7 @@ advanced x s = settle x (filtered x s)
 
 -- A sample on an axis that is primed, or is not: the axis after it, and its bits of the answer.
 unfoldable pub outcome : Bool → Axis → Raw → Stepped
-outcome true x s = record { axis = advanced x s; double = isE (moveOf x s); index = zRose x s }
+outcome true x s = record { axis = advanced x s; double = isE (moveOf x s); index = edgeMet x s }
 outcome false x s = record { axis = primedBy x s; double = false; index = false }
 
 -- A sample on an axis.

@@ -12,7 +12,8 @@ use axis_filter::Line;
 use axis_filter::Lines;
 use axis_filter::Raw;
 use axis_filter::filter::filter;
-use axis_index::z_rises;
+use axis_index::edge_between;
+use axis_index::is_met;
 use axis_settle::settled;
 
 // The axis after a sample, and its bits of the answer.
@@ -75,11 +76,18 @@ fn advance(x: Axis, s: Raw) -> Stepped
     let levels = x.levels;
     let n = filter(x.config.depth, lines_of(x), s);
     let m = move_between(x.config.kind, levels[0], levels[1], n.a.level, n.b.level);
-    let rose = z_rises(levels[2], n.z.level);
+    let e = edge_between(
+        levels[0],
+        levels[1],
+        levels[2],
+        n.a.level,
+        n.b.level,
+        n.z.level,
+    );
     Stepped {
-        axis: settled(x, n, m, rose),
+        axis: settled(x, n, m, e),
         double: is_double(m),
-        index: rose,
+        index: is_met(e),
     }
 }
 

@@ -1,7 +1,8 @@
 -- What the filter, the tables and the index line make of an axis and a sample: docs/RULES.md, "A port sample".
 use Prim.Native.Nat.{ℕ}
-use mathlib.Core.Bool.{Bool, false}
+use mathlib.Core.Bool.{false}
 use lib.ListN.{getD}
+use Rattle.axis.specs.Kind.{X4}
 use Rattle.axis.specs.declared.row.Axis.{Axis}
 use Rattle.axis_filter.specs.Lines.{Wire, A, B, Z, levelOf}
 use Rattle.axis_filter.specs.Filter.{filterLine}
@@ -10,7 +11,8 @@ use Rattle.axis_filter.specs.declared.Lines.{Lines}
 use Rattle.axis_filter.specs.declared.Raw.{Raw}
 use Rattle.axis_decode.specs.Decode.{code, entry}
 use Rattle.axis_decode.specs.declared.Move.{Move}
-use Rattle.axis_index.specs.Index.{risesTo}
+use Rattle.axis_index.specs.Index.{edgeBy}
+use Rattle.axis_index.specs.declared.Edge.{Edge}
 
 -- The line at a place of an axis's levels and runs.
 abbrev pub lineIn : Axis → ℕ → Line
@@ -34,10 +36,14 @@ line x w = lineIn x (placeOf w)
 unfoldable pub filtered : Axis → Raw → Wire → Line
 filtered x s w = filterLine (x .config .depth) (line x w) (levelOf s w)
 
--- The entry of an axis whose filtered lines become n.
-unfoldable pub moveTo : Axis → (Wire → Line) → Move
-moveTo x n = entry (x .config .kind) (code (line x A .level) (line x B .level)) (code (n A .level) (n B .level))
+-- The entry that a kind's table has where the filtered lines of an axis become n.
+abbrev entryTo : ℕ → Axis → (Wire → Line) → Move
+entryTo kind x n = entry kind (code (line x A .level) (line x B .level)) (code (n A .level) (n B .level))
 
--- Filtered Z goes from 0 to 1 where the lines of an axis become n.
-unfoldable pub rises : Axis → (Wire → Line) → Bool
-rises x n = risesTo (line x Z .level) (n Z .level)
+-- The entry of an axis whose filtered lines become n, which is its mode's.
+unfoldable pub moveTo : Axis → (Wire → Line) → Move
+moveTo x n = entryTo (x .config .kind) x n
+
+-- Its reference edge, which goes by x4's entry, whatever its mode counts.
+unfoldable pub edgeTo : Axis → (Wire → Line) → Edge
+edgeTo x n = edgeBy (entryTo X4 x n) (line x Z .level) (n Z .level)

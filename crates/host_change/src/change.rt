@@ -12,7 +12,7 @@ pub extern "C" fn ubrenchip_preset(table: &mut [u64], axis: u64, position: i64) 
     of_done(table_change::change::preset(table, axis, position))
 }
 
-// The next index rise is to home: LENGTH, AXIS, BROKEN, EMPTY, KIND.
+// The next reference edge is to home: LENGTH, AXIS, BROKEN, EMPTY, KIND.
 #[no_mangle]
 pub extern "C" fn ubrenchip_arm(table: &mut [u64], axis: u64) -> Answer
     ensures { λ r. ⌜ MakesToC armRow (now (table .entry)) axis (now (table .exit)) r ⌝ }

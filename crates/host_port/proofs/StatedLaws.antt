@@ -6,7 +6,7 @@ use Rattle.table_port.specs.declared.Sampled.the-variants.{Seen, Refused}
 use Rattle.host_port.specs.declared.SampledAnswer.{SampledAnswer}
 use Rattle.host_port.specs.Port.{answerSampled}
 
--- What a sample shows to C: refusal, found, and the masks of doubles, index rises and broken rows.
+-- What a sample shows to C: refusal, found, and the masks of doubles, reference edges and broken rows.
 abbrev shown : ℕ → ℕ → ℕ → ℕ → ℕ → SampledAnswer
 shown refusal found doubles index broken = record {
   refusal = refusal;

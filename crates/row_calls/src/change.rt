@@ -53,7 +53,7 @@ fn on_sampled(status: Status, made: Axis) -> Changed
     }
 }
 
-// Arm: the next index rise is to home.
+// Arm: the next reference edge is to home.
 pub fn arm(r: Row) -> Changed
     ensures { λ c. ⌜ c ≡ armRow r ⌝ }
 {

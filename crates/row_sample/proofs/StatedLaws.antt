@@ -14,7 +14,7 @@ use Rattle.row_sample.specs.declared.SteppedRow.{SteppedRow}
 abbrev words : ℕ → ℕ → ℕ → ℕ → Row
 words w0 w1 w2 w3 = record { w0 = w0; w1 = w1; w2 = w2; w3 = w3 }
 
--- A row after a sample, and its bits of the answer: double step, index rise, broken.
+-- A row after a sample, and its bits of the answer: double step, reference edge, broken.
 abbrev seen : Row → Bool → Bool → Bool → SteppedRow
 seen r double index broken = record { row = r; double = double; index = index; broken = broken }
 
@@ -29,7 +29,7 @@ pub rows-stated :
 unfolding stepRow stepBy statusOf stepAxis outcome primedBy
 rows-stated = refl
 
--- A double step and an index rise of a sampled axis are those of its row, which is not broken.
+-- A double step and a reference edge of a sampled axis are those of its row, which is not broken.
 pub bits-stated :
     let x = axisOf (words 7 52 0 9) in
     packed (record { axis = x; double = true; index = false }) ≡ seen (words 7 52 0 9) true false false

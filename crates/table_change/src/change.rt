@@ -12,7 +12,7 @@ pub fn preset(table: &mut [u64], axis: u64, position: i64) -> Done
     make(table, axis, Change::Preset(position))
 }
 
-// The next index rise is to home: LENGTH, AXIS, BROKEN, EMPTY, KIND.
+// The next reference edge is to home: LENGTH, AXIS, BROKEN, EMPTY, KIND.
 pub fn arm(table: &mut [u64], axis: u64) -> Done
     ensures { λ r. ⌜ Makes armRow (now (table .entry)) axis (now (table .exit)) r ⌝ }
 {

@@ -17,7 +17,7 @@ pub port-stated :
 unfolding nibble
 port-stated = refl
 
--- The three masks: doubles, index rises, broken rows.
+-- The three masks: doubles, reference edges, broken rows.
 abbrev masks : ℕ → ℕ → ℕ → Masks
 masks doubles index broken = record { doubles = doubles; index = index; broken = broken }
 
@@ -25,7 +25,7 @@ masks doubles index broken = record { doubles = doubles; index = index; broken =
 abbrev bits : Bool → Bool → Bool → SteppedRow
 bits double index broken = record { row = emptyRow; double = double; index = index; broken = broken }
 
--- Axis 3's double step, index rise and broken row each set bit 3 of the mask of that name, and leave the bits below.
+-- Axis 3's double step, reference edge and broken row each set bit 3 of the mask of that name, and leave the bits below.
 pub masks-stated :
     map (noted (masks 1 2 4) 3) (bits true false false ∷ bits false true false ∷ bits false false true ∷ bits false false false ∷ [])
     ≡ masks 9 2 4 ∷ masks 1 10 4 ∷ masks 1 2 12 ∷ masks 1 2 4 ∷ []

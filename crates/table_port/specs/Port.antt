@@ -79,9 +79,9 @@ pub record Samples (t : List ℕ) (port : ℕ) (u : List ℕ) (a : Sampled) : Ty
   pub table : u ≡ sampledTable t port
 
 -- Axis k's bits of the three masks.
-pub record Bits (m : Masks) (k : ℕ) (double rise bad : Bool) : Type 0 where
+pub record Bits (m : Masks) (k : ℕ) (double edge bad : Bool) : Type 0 where
   pub doubles : flagOf k (m .doubles) ≡ double
-  pub index : flagOf k (m .index) ≡ rise
+  pub index : flagOf k (m .index) ≡ edge
   pub broken : flagOf k (m .broken) ≡ bad
 
 -- Row k keeps every word through a sample, and sets no bit but perhaps that of the broken rows.

@@ -13,9 +13,9 @@ use Rattle.axis_filter.specs.Filter.{filterLine}
 use Rattle.axis_decode.specs.Decode.{x4, tableOf, entry, isE}
 use Rattle.axis_count.specs.Count.{countedWord, countedRange, countedDoubles}
 use Rattle.axis_pace.specs.Pace.{older, pacedDirection, pacedAge, stepPeriod, pacedPeriod}
-use Rattle.axis_index.specs.Index.{offTurn}
-use Rattle.axis_settle.specs.Lines.{placeOf, line, filtered, moveTo, rises}
-use Rattle.axis_settle.specs.Settle.{settle}
+use Rattle.axis_index.specs.Index.{edgeBy, offTurn}
+use Rattle.axis_settle.specs.Lines.{placeOf, line, filtered, moveTo, edgeTo}
+use Rattle.axis_settle.specs.Settle.{atEdge, withEntry, settle}
 use Rattle.axis_sample.specs.Step.{primedBy, outcome, stepAxis}
 use Rattle.row_sample.specs.Sample.{stepBy, stepRow}
 use Rattle.row_calls.specs.Calls.{setupRow}
@@ -41,6 +41,7 @@ pub inputs-told : map inputReport ((0 ∷ 1 ∷ 3 ∷ 2 ∷ 0 ∷ []) ∷ (248 �
     ≡ record { samples = 5; position = pos 4; doubles = 0 } ∷ record { samples = 5; position = negsuc 3; doubles = 0 }
     ∷ record { samples = 3; position = pos 1; doubles = 1 } ∷ []
 unfolding positionOf inRange statusOf placeOf levelOf line filterLine filtered x4 tableOf entry isE moveTo countedWord countedRange
-    countedDoubles older pacedDirection pacedAge stepPeriod pacedPeriod rises offTurn primedBy settle outcome stepAxis stepBy stepRow
+    countedDoubles older pacedDirection pacedAge stepPeriod pacedPeriod edgeTo edgeBy offTurn
+    primedBy settle atEdge withEntry outcome stepAxis stepBy stepRow
     steppedBy
 inputs-told = refl

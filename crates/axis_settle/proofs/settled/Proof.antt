@@ -1,27 +1,12 @@
 use Rattle.axis_settle.specs.Settle.{settle}
-use Rattle.axis_filter.specs.Lines.{three}
 use Rattle.axis_settle.proofs.settled.Statement.{statement}
 use Rattle.axis_settle.proofs.settled.Tie as tie
 
 returns : tie.Need-returns
-unfolding settle three
+unfolding settle
 returns c =
-    let k = c .before .before .before in
-    let n = k .before .before .before .before .before .before .before in
-    let given = n .before .before .before .pre in
-    rw (
-      ← (given .0),
-      ← (given .1),
-      c .before .home .ensures,
-      k .check .ensures,
-      n .count .ensures,
-      c .count-doubles .ensures,
-      c .before .before .paced .ensures,
-    )
+    let given = c .before .before .before .pre in
+    rw (← (given .0), ← (given .1), c .at-edge2 .ensures, c .before .with-entry .ensures, c .before .before .at-edge .ensures)
 
 pub settled-spec : {M : Type 1} → statement M
-settled-spec =
-    tie.close
-    (tie.spec
-    (λ c κs. tt) (λ c κs. tt) (λ c κs. tt) (λ c κs. tt) (λ c κs. tt)
-    returns)
+settled-spec = tie.close (tie.spec (λ c κs. tt) (λ c κs. tt) (λ c κs. tt) returns)
