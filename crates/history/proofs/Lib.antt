@@ -6,4 +6,5 @@ pub mod SampledHistory
 pub mod CounterHistory
 pub mod BeginningLaws
 pub mod ShaftHistory
+pub mod ReferenceHistory
 pub mod SeenHistory

@@ -17,8 +17,9 @@ use Rattle.axis_settle.specs.Lines.{line}
 use Rattle.row_sample.specs.Sample.{stepRow}
 use Rattle.history_axis.specs.Acts.{sampled, after, Legal}
 use Rattle.history_axis.specs.Start.{Start}
-use Rattle.history_axis.specs.Levels.{primedAt, levelAt, roseAt}
+use Rattle.history_axis.specs.Levels.{primedAt, levelAt}
 use Rattle.history_axis.specs.Entries.{codeAt, numberOfE, bothChange, doubleAt}
+use Rattle.history_axis.specs.Edge.{edgeAt}
 use Rattle.history_axis.specs.Homing.{homesAt}
 use Rattle.history_axis.specs.Tally.{sum, placeTally, doublesTally}
 use Rattle.runs.specs.Told.{Marks}
@@ -31,13 +32,16 @@ use Rattle.history_axis.proofs.StartLaws.{start-sound}
 use Rattle.history.proofs.RowHistory.{phase-lawful, status-history, sampled-history, marks-history}
 
 module _ {r : Row} (words : Words r) (h : List Event) (live : statusOf (rowSince r h) ≡ Sampled) where
+  -- The phase began with a sampled row.
   first : statusOf (phaseOf r h .start) ≡ Sampled
   first = sym (status-history words h) ∙ live
 
-  start : Start (startAxis r h)
+  -- Which is such as a history starts from.
+  pub start : Start (startAxis r h)
   start = start-sound (phaseOf r h .start) first
 
-  legal : Legal (actsSince r h)
+  -- Its acts were accepted.
+  pub legal : Legal (actsSince r h)
   legal = phase-lawful words h .legal
 
   -- The axis of the row is the axis after the acts of its phase.
@@ -72,23 +76,27 @@ module _ {r : Row} (words : Words r) (h : List Event) (live : statusOf (rowSince
       ≡ (primedAt (startAxis r h) (actsSince r h) && bothChange (startAxis r h) (rawOf n) (actsSince r h))
   double-lines-row n = double-bit-row n ∙ double-lines (startAxis r h) (rawOf n) (actsSince r h)
 
-  -- A sample's index bit is set exactly where filtered Z rose.
-  pub index-bit-row : (n : ℕ) → stepRow (rowSince r h) n .index ≡ roseAt (startAxis r h) (rawOf n) (actsSince r h)
+  -- A sample's index bit is set exactly where it is a reference edge.
+  pub index-bit-row : (n : ℕ) → stepRow (rowSince r h) n .index ≡ edgeAt (startAxis r h) (rawOf n) (actsSince r h)
   unfolding toldMarks markedBy
   index-bit-row n = ap (λ (m : Marks). m .index) (marks-history words h n) ∙ rw first
 
 -- ---- one sample more
 
 module _ {r : Row} (words : Words r) (h : List Event) (live : statusOf (rowSince r h) ≡ Sampled) (n : ℕ) where
-  next-phase : phaseOf r (bits n ∷ h) ≡ acted (phaseOf r h) (sampled (rawOf n))
+  -- The phase with it.
+  pub next-phase : phaseOf r (bits n ∷ h) ≡ acted (phaseOf r h) (sampled (rawOf n))
   unfolding phaseOf afterEvent
   next-phase = rw (first words h live)
 
-  next-axis : axisOf (rowSince r (bits n ∷ h)) ≡ after (startAxis r h) (sampled (rawOf n) ∷ actsSince r h)
+  -- The row stays sampled.
+  pub next-live : statusOf (rowSince r (bits n ∷ h)) ≡ Sampled
+  next-live = status-history words (bits n ∷ h) ∙ ap (λ (p : Phase). statusOf (p .start)) next-phase ∙ first words h live
+
+  -- The axis after it.
+  pub next-axis : axisOf (rowSince r (bits n ∷ h)) ≡ after (startAxis r h) (sampled (rawOf n) ∷ actsSince r h)
   next-axis =
-      axis-row words (bits n ∷ h)
-      (status-history words (bits n ∷ h) ∙ ap (λ (p : Phase). statusOf (p .start)) next-phase ∙ first words h live)
-      ∙ ap (λ (p : Phase). after (axisOf (p .start)) (p .acts)) next-phase
+      axis-row words (bits n ∷ h) next-live ∙ ap (λ (p : Phase). after (axisOf (p .start)) (p .acts)) next-phase
 
   -- A sample on a primed axis that neither homes nor leaves RANGE set moves the position by what its entry is worth.
   pub later-sample-row : primedAt (startAxis r h) (actsSince r h) ≡ true →

@@ -4,4 +4,5 @@ pub mod Lawful
 pub mod Counter
 pub mod Begun
 pub mod Shaft
+pub mod Reference
 pub mod Seen

@@ -30,7 +30,7 @@ use Rattle.runs.specs.Event.{Event, bits, asked}
 use Rattle.history_axis.specs.Acts.{Act, sampled}
 use Rattle.history_axis.specs.Acts.{preset as placed, arm as armed, acknowledge as acknowledged}
 use Rattle.history_axis.specs.Entries.{doubleAt}
-use Rattle.history_axis.specs.Levels.{roseAt}
+use Rattle.history_axis.specs.Edge.{edgeAt}
 use Rattle.history_axis.specs.Told.{toldAxis}
 
 -- A phase: the row that it began with, what has happened to a sampled axis since, newest first, and where a counter is.
@@ -113,11 +113,11 @@ toldBy Broken p = p .start
 unfoldable pub toldRow : Phase → Row
 toldRow p = toldBy (statusOf (p .start)) p
 
--- The bits that a phase tells of a sample: E and the index rise of a sampled axis, broken for a broken row, none for any other.
+-- The bits that a phase tells of a sample: E and the reference edge of a sampled axis, broken for a broken row, none for any other.
 unfoldable pub markedBy : Status → Phase → ℕ → Marks
 markedBy Sampled p n = record {
   double = doubleAt (axisOf (p .start)) (rawOf n) (p .acts);
-  index = roseAt (axisOf (p .start)) (rawOf n) (p .acts);
+  index = edgeAt (axisOf (p .start)) (rawOf n) (p .acts);
   broken = false;
 }
 markedBy Counter p n = record { double = false; index = false; broken = false }

@@ -16,8 +16,9 @@ use Rattle.axis_filter.specs.declared.Raw.{Raw}
 use Rattle.axis_sample.specs.declared.step.Stepped.{Stepped}
 use Rattle.history_axis.specs.Acts.{Act, sampled, after, Legal}
 use Rattle.history_axis.specs.Start.{Start}
-use Rattle.history_axis.specs.Levels.{primedAt, levelAt, runAt, roseAt}
+use Rattle.history_axis.specs.Levels.{primedAt, levelAt, runAt}
 use Rattle.history_axis.specs.Entries.{codeAt, entries, numberOfE, doubleAt}
+use Rattle.history_axis.specs.Edge.{edgeAt}
 use Rattle.history_axis.specs.Homing.{armedAt, homesAt, homedAt}
 use Rattle.history_axis.specs.Tally.{onward, sum, walk, heldIn, walked, ranged, placeTally, positionAt, doublesTally}
 use Rattle.history_axis.specs.Pace.{directionOf, ageOf, periodOf}
@@ -102,8 +103,8 @@ module _ (x : Axis) (start : Start x) (h : List Act) (legal : Legal h) where
   unfolding answered
   double-bit s = ap (λ (o : Stepped). o .double) (sample-history x start s h legal)
 
-  -- A sample's index bit is set exactly where filtered Z rose.
-  pub index-bit : (s : Raw) → stepAxis (after x h) s .index ≡ roseAt x s h
+  -- A sample's index bit is set exactly where it is a reference edge.
+  pub index-bit : (s : Raw) → stepAxis (after x h) s .index ≡ edgeAt x s h
   unfolding answered
   index-bit s = ap (λ (o : Stepped). o .index) (sample-history x start s h legal)
 

@@ -2,8 +2,10 @@ pub mod LatestLaws
 pub mod FilterLaws
 pub mod LevelsLaws
 pub mod EntriesLaws
+pub mod AngleLaws
 pub mod CountLaws
 pub mod TallyLaws
+pub mod ReferenceLaws
 pub mod PaceLaws
 pub mod PrimeLaws
 pub mod SettleLaws

@@ -8,8 +8,9 @@ use Rattle.axis_filter.specs.Lines.{A, B, Z, levelOf}
 use Rattle.axis_sample.specs.Step.{primedBy, outcome}
 use Rattle.axis_filter.specs.declared.Raw.{Raw}
 use Rattle.history_axis.specs.Acts.{Act, sampled}
-use Rattle.history_axis.specs.Levels.{primedAt, roseAt}
+use Rattle.history_axis.specs.Levels.{primedAt}
 use Rattle.history_axis.specs.Entries.{entries}
+use Rattle.history_axis.specs.Edge.{forwardAt, backwardAt, edgeAt}
 use Rattle.history_axis.specs.Homing.{armedAt, homesAt, homedAt}
 use Rattle.history_axis.specs.Tally.{walked, ranged, placeTally, doubled, doublesTally}
 use Rattle.history_axis.specs.Pace.{paceOf}
@@ -19,17 +20,17 @@ use Rattle.history_axis.proofs.LevelsLaws.{level-prime, run-prime}
 use Rattle.history_axis.proofs.EntriesLaws.{entry-none, double-none}
 
 module _ (x : Axis) (s : Raw) (h : List Act) (q : primedAt x h ≡ false) where
-  no-rise : roseAt x s h ≡ false
-  unfolding roseAt
-  no-rise = rw q
+  no-edge : edgeAt x s h ≡ false
+  unfolding forwardAt backwardAt edgeAt
+  no-edge = rw q
 
   no-home : homesAt x s h ≡ false
   unfolding homesAt
-  no-home = rw no-rise (and-false (armedAt x h))
+  no-home = rw no-edge (and-false (armedAt x h))
 
   armed-stays : armedAt x h ≡ armedAt x (sampled s ∷ h)
   unfolding armedAt
-  armed-stays = rw no-rise (sym (and-true (armedAt x h)))
+  armed-stays = rw no-edge (sym (and-true (armedAt x h)))
 
   homed-stays : homedAt x h ≡ homedAt x (sampled s ∷ h)
   unfolding homedAt
@@ -37,7 +38,7 @@ module _ (x : Axis) (s : Raw) (h : List Act) (q : primedAt x h ≡ false) where
 
   index-stays : indexAt x h ≡ indexAt x (sampled s ∷ h)
   unfolding indexAt
-  index-stays = rw no-rise (sym (or-false (indexAt x h)))
+  index-stays = rw no-edge (sym (or-false (indexAt x h)))
 
   place-stays : placeTally x h ≡ placeTally x (sampled s ∷ h)
   unfolding placeTally
@@ -74,4 +75,4 @@ module _ (x : Axis) (s : Raw) (h : List Act) (q : primedAt x h ≡ false) where
   -- A sample that primes sets PRIMED and the lines, changes nothing else, and sets no bit of the answer.
   pub primes : outcome false (toldAxis x h) s ≡ answered x s h
   unfolding outcome answered
-  primes = λ i. record { axis = told-primes i; double = sym (double-none x s h (entry-none x s h q)) i; index = sym no-rise i }
+  primes = λ i. record { axis = told-primes i; double = sym (double-none x s h (entry-none x s h q)) i; index = sym no-edge i }

@@ -1,6 +1,6 @@
 -- The laws of a tally: position, RANGE and doubles with one entry more, and the sum while RANGE is clear.
 use mathlib.Core.Path.{_≡_, refl, sym, _∙_, ap}
-use mathlib.Core.Bool.{Bool, true, false, cond, not, _&&_, _||_, true≢false, and-true, and-false, or-assoc}
+use mathlib.Core.Bool.{Bool, true, false, cond, not, _&&_, _||_, true≢false, and-true, and-false, or-false, or-assoc}
 use mathlib.Core.List.{List, [], _∷_}
 use Prim.Native.Nat.{ℕ, _+_, _^_, min}
 use native.Mathlib.Omega.{arith}
@@ -11,7 +11,7 @@ use Rattle.axis_decode.specs.Decode.{worth, isE}
 use Rattle.axis_count.specs.Count.{countedWord, countedRange, countedDoubles}
 use Rattle.axis_decode.specs.declared.Move.{Move}
 use Rattle.history_axis.specs.Entries.{numberOfE}
-use Rattle.history_axis.specs.Tally.{Tally, given, onward, Place, clear, sum, holds, walk, heldIn, walked, ranged, doubled}
+use Rattle.history_axis.specs.Tally.{Tally, onward, Place, homedTally, sum, holds, walk, heldIn, walked, ranged, doubled}
 use Rattle.history_axis.proofs.CountLaws.{stepped-in-range, count-word, count-range}
 
 -- ---- one entry more
@@ -21,30 +21,61 @@ unfolding walk
 walk-in-range z e [] = e
 walk-in-range z e (m ∷ ms) = stepped-in-range (walk z ms) (walk-in-range z e ms) m
 
+-- The tally after one entry more on an axis that is armed, or is not, at an edge that is met forward, or backward, or at none.
+abbrev nextTally : Tally Place → Move → Bool → Bool → Bool → Tally Place
+nextTally t m armed forward backward = cond (armed && (forward || backward)) (homedTally backward (m ∷ [])) (onward (m ∷ []) t)
+
 module _ (t : Tally Place) (e : inRange (t .value .position) ≡ true) (m : Move) where
   now-in-range : inRange (walked t) ≡ true
   now-in-range = walk-in-range (t .value .position) e (t .moves)
 
   -- The position after one entry more.
-  pub counted-next : positionOf (countedWord m (wordOf (walked t))) ≡ walked (onward (m ∷ []) t)
+  counted-next : positionOf (countedWord m (wordOf (walked t))) ≡ walked (onward (m ∷ []) t)
   unfolding walk
   counted-next = rw (count-word (walked t) now-in-range m) (position-word _ (stepped-in-range (walked t) now-in-range m))
 
-  -- The word and RANGE after one entry more, or after a homing.
-  pub word-next : (homes : Bool) →
-      cond homes (2 ^ 62) (countedWord m (wordOf (walked t))) ≡ wordOf (walked (cond homes (given (clear (pos 0))) (onward (m ∷ []) t)))
-  unfolding walk wordOf
-  word-next true = refl
-  word-next false = count-word (walked t) now-in-range m
-
-  pub range-next : (homes : Bool) →
-      (countedRange m (wordOf (walked t)) (ranged t) && not homes) ≡ ranged (cond homes (given (clear (pos 0))) (onward (m ∷ []) t))
+  counted-range : countedRange m (wordOf (walked t)) (ranged t) ≡ ranged (onward (m ∷ []) t)
   unfolding heldIn
-  range-next true = and-false (countedRange m (wordOf (walked t)) (ranged t))
-  range-next false =
-      and-true (countedRange m (wordOf (walked t)) (ranged t))
-      ∙ count-range (walked t) now-in-range m (ranged t)
+  counted-range =
+      count-range (walked t) now-in-range m (ranged t)
       ∙ or-assoc (t .value .range) (heldIn (t .value .position) (t .moves)) (holds (walked t) m)
+
+  -- The word, RANGE and INDEX after one entry more, on an axis that is armed (a), or is not, at an edge that is met forward (f), or
+  -- backward (b), or at none.
+  pub word-next : (f b a : Bool) → (f ≡ true → b ≡ false) →
+      cond (f && (not b && a)) (2 ^ 62) (countedWord m (cond (b && a) (2 ^ 62) (wordOf (walked t))))
+      ≡ wordOf (walked (nextTally t m a f b))
+  unfolding walk wordOf inRange
+  word-next true true a one = absurd (true≢false (one refl))
+  word-next true false true one = refl
+  word-next true false false one = count-word (walked t) now-in-range m
+  word-next false true true one = count-word (pos 0) refl m
+  word-next false true false one = count-word (walked t) now-in-range m
+  word-next false false true one = count-word (walked t) now-in-range m
+  word-next false false false one = count-word (walked t) now-in-range m
+
+  pub range-next : (f b a : Bool) → (f ≡ true → b ≡ false) →
+      (countedRange m (cond (b && a) (2 ^ 62) (wordOf (walked t))) (ranged t && not (b && a)) && not (f && (not b && a)))
+      ≡ ranged (nextTally t m a f b)
+  unfolding walk heldIn wordOf inRange
+  range-next true true a one = absurd (true≢false (one refl))
+  range-next true false true one = and-false (countedRange m (wordOf (walked t)) (ranged t && true))
+  range-next true false false one = rw (and-true, and-true) counted-range
+  range-next false true true one = rw (and-true, and-false (ranged t)) (count-range (pos 0) refl m false)
+  range-next false true false one = rw (and-true, and-true) counted-range
+  range-next false false true one = rw (and-true, and-true) counted-range
+  range-next false false false one = rw (and-true, and-true) counted-range
+
+  pub index-next : (off : ℤ → Bool) (i h f b a : Bool) → (f ≡ true → b ≡ false) →
+      ((i || (b && not a && h && off (positionOf (wordOf (walked t)))))
+      || (f && not (not b && a) && (h || (b && a)) && off (positionOf (countedWord m (cond (b && a) (2 ^ 62) (wordOf (walked t)))))))
+      ≡ (i || ((f || b) && not a && h && off (cond b (walked t) (walked (onward (m ∷ []) t)))))
+  index-next off i h true true a one = absurd (true≢false (one refl))
+  index-next off i h true false true one = or-false (i || false)
+  index-next off i h true false false one = rw (or-false i, or-false h, counted-next)
+  index-next off i h false true true one = or-false (i || false)
+  index-next off i h false true false one = rw (or-false, position-word (walked t) now-in-range)
+  index-next off i h false false a one = or-false (i || false)
 
 -- The doubles after one entry more.
 pub doubles-next : (t : Tally ℕ) (m : Move) → countedDoubles m (doubled t) ≡ doubled (onward (m ∷ []) t)

@@ -4,7 +4,6 @@ use mathlib.Core.Bool.{Bool, true, false, cond, or-false}
 use mathlib.Core.List.{List, [], _∷_}
 use Prim.Native.Nat.{_+_, _-_, _^_, min}
 use native.Mathlib.Omega.{arith}
-use lib.IntN.{pos}
 use Rattle.position.specs.Position.{inRange}
 use Rattle.position.proofs.PositionLaws.{position-in-range, word-position}
 use Rattle.axis.specs.Flags.{withRange}
@@ -20,8 +19,9 @@ use Rattle.row_calls.specs.Change.{changed}
 use Rattle.history_axis.specs.Start.{Start}
 use Rattle.history_axis.specs.Levels.{primedAt, since, levelAt, runAt}
 use Rattle.history_axis.specs.Entries.{entryAt, entries, numberOfE}
+use Rattle.history_axis.specs.Edge.{backwardAt}
 use Rattle.history_axis.specs.Homing.{armedAt, homesAt, homedAt}
-use Rattle.history_axis.specs.Tally.{given, onward, clear, walk, heldIn, placeTally, positionAt, doublesTally}
+use Rattle.history_axis.specs.Tally.{onward, homedTally, walk, heldIn, placeTally, positionAt, doublesTally}
 use Rattle.history_axis.specs.Pace.{directionOf, gapOf, ageOf, periodOf}
 use Rattle.history_axis.specs.Index.{indexAt}
 use Rattle.history_axis.specs.Told.{toldAxis, answered}
@@ -72,7 +72,7 @@ module _ (x : Axis) (start : Start x) where
   value-in-range (sampled s ∷ h) l = go (homesAt x s h) (value-in-range h (l .1))
     where
       go : (b : Bool) → inRange (placeTally x h .value .position) ≡ true →
-          inRange (cond b (given (clear (pos 0))) (onward (entryAt x s h) (placeTally x h)) .value .position) ≡ true
+          inRange (cond b (homedTally (backwardAt x s h) (entryAt x s h)) (onward (entryAt x s h) (placeTally x h)) .value .position) ≡ true
       go true e = refl
       go false e = e
   value-in-range (preset p ∷ h) l = l .0

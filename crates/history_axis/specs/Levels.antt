@@ -1,12 +1,11 @@
 -- The filtered lines after a history h that started from the axis x: docs/RULES.md, "A port sample", Priming and Filter.
 use Prim.Native.Nat.{ℕ}
-use mathlib.Core.Bool.{Bool, true, cond, not, _&&_}
+use mathlib.Core.Bool.{Bool, true, cond, not}
 use mathlib.Core.List.{List, [], _∷_}
 use lib.ListN.{replicate}
 use Rattle.axis.specs.declared.row.Axis.{Axis}
-use Rattle.axis_filter.specs.Lines.{Wire, Z, levelOf}
+use Rattle.axis_filter.specs.Lines.{Wire, levelOf}
 use Rattle.axis_settle.specs.Lines.{line}
-use Rattle.axis_filter.specs.declared.Raw.{Raw}
 use Rattle.history_axis.specs.Acts.{Act, sampled, preset, arm, acknowledge}
 use Rattle.history_axis.specs.Latest.{streak, latest}
 
@@ -40,7 +39,3 @@ levelAt x w h = latest (x .config .depth) (since x w h .level) (since x w h .raw
 -- The run of a line: how many of its newest samples differ from the filtered level, without a break.
 unfoldable pub runAt : Axis → Wire → List Act → ℕ
 runAt x w h = streak (not (levelAt x w h)) (since x w h .raws)
-
--- Whether the sample s after h is an index rise: filtered Z goes from 0 to 1 on a primed axis.
-unfoldable pub roseAt : Axis → Raw → List Act → Bool
-roseAt x s h = primedAt x h && (not (levelAt x Z h) && levelAt x Z (sampled s ∷ h))

@@ -3,9 +3,11 @@ pub mod Start
 pub mod Latest
 pub mod Levels
 pub mod Entries
+pub mod Edge
 pub mod Homing
 pub mod Tally
 pub mod Pace
 pub mod Index
 pub mod Told
 pub mod Shaft
+pub mod Reference

@@ -9,6 +9,7 @@ use Rattle.axis_decode.specs.Decode.{worth}
 use Rattle.axis_decode.specs.declared.Move.{Move}
 use Rattle.history_axis.specs.Acts.{Act, sampled, preset, arm, acknowledge}
 use Rattle.history_axis.specs.Entries.{entryAt, numberOfE}
+use Rattle.history_axis.specs.Edge.{backwardAt}
 use Rattle.history_axis.specs.Homing.{homesAt}
 
 -- What was given last, and the entries since, newest first.
@@ -33,10 +34,15 @@ pub record Place : Type 0 where
 abbrev pub clear : ℤ → Place
 clear p = record { position = p; range = false }
 
+-- The tally after a sample that homes: from 0, and where the edge was met backward with the sample's own entry.
+abbrev pub homedTally : Bool → List Move → Tally Place
+homedTally backward ms = record { value = clear (pos 0); moves = cond backward ms [] }
+
 -- The position's tally: given by a preset and, as 0, by a homing; before the first of these, as the starting axis has it.
 unfoldable pub placeTally : Axis → List Act → Tally Place
 placeTally x [] = given (record { position = positionOf (x .word); range = x .flags .range })
-placeTally x (sampled s ∷ h) = cond (homesAt x s h) (given (clear (pos 0))) (onward (entryAt x s h) (placeTally x h))
+placeTally x (sampled s ∷ h) =
+    cond (homesAt x s h) (homedTally (backwardAt x s h) (entryAt x s h)) (onward (entryAt x s h) (placeTally x h))
 placeTally x (preset p ∷ h) = given (clear p)
 placeTally x (arm ∷ h) = placeTally x h
 placeTally x (acknowledge ∷ h) = placeTally x h

@@ -6,8 +6,9 @@ use Rattle.axis_filter.specs.Lines.{A, B, Z}
 use Rattle.axis_filter.specs.declared.Raw.{Raw}
 use Rattle.axis_sample.specs.declared.step.Stepped.{Stepped}
 use Rattle.history_axis.specs.Acts.{Act, sampled}
-use Rattle.history_axis.specs.Levels.{primedAt, levelAt, runAt, roseAt}
+use Rattle.history_axis.specs.Levels.{primedAt, levelAt, runAt}
 use Rattle.history_axis.specs.Entries.{entries, doubleAt}
+use Rattle.history_axis.specs.Edge.{edgeAt}
 use Rattle.history_axis.specs.Homing.{armedAt, homedAt}
 use Rattle.history_axis.specs.Tally.{positionAt, rangeAt, doublesAt}
 use Rattle.history_axis.specs.Pace.{paceOf}
@@ -27,4 +28,4 @@ toldAxis x h = record {
 
 -- The axis after the sample s after h, and its bits of the answer.
 unfoldable pub answered : Axis → Raw → List Act → Stepped
-answered x s h = record { axis = toldAxis x (sampled s ∷ h); double = doubleAt x s h; index = roseAt x s h }
+answered x s h = record { axis = toldAxis x (sampled s ∷ h); double = doubleAt x s h; index = edgeAt x s h }

@@ -18,7 +18,7 @@ use Rattle.row_view.specs.declared.answer.View.{View}
 use Rattle.row_view.specs.declared.answer.Viewed.{Viewed}
 use Rattle.row_view.specs.declared.answer.Viewed.the-variants.{Shows, Refused as Unseen}
 
--- An axis's bits of the three masks: double step, index rise, broken row.
+-- An axis's bits of the three masks: double step, reference edge, broken row.
 pub record Marks : Type 0 where
   pub double : Bool
   pub index : Bool
