@@ -1,12 +1,12 @@
--- The three demands, in order: the twelve theorems that the rest of this repository is for. Each is written out in the definitions of
+-- The three demands, in order: the thirteen theorems that the rest of this repository is for. Each is written out in the definitions of
 -- specs/ and proved in a line or two by the laws that it cites. That every call ends and never traps, whatever it is lent, is what the
 -- check of each function says, and no public call asks anything of its caller; what the calls answer and leave is what `Samples`, `Makes`,
 -- `ReadingMakes`, `SaveMakes`, `viewedIn` and `speedIn` promise, in the contracts of table_port, table_change and table. A run of calls is
 -- told by `tableRun` and `heard` of runs, and RunIs there says that each of its calls is what that call's contract promises.
 use Prim.Native.Nat.{ℕ, _+_, _*_, _≤_, _<_, min}
-use mathlib.Core.Path.{_≡_}
+use mathlib.Core.Path.{_≡_, subst}
 use mathlib.Core.Logic.{_↔_, _≢_}
-use mathlib.Core.Bool.{false, _&&_}
+use mathlib.Core.Bool.{Bool, false, _&&_}
 use mathlib.Core.List.{List, [], _∷_, _++_}
 use lib.Dec.{eqb}
 use lib.IntN.{ℤ, _+ℤ_, _-ℤ_}
@@ -40,21 +40,27 @@ use Rattle.table.proofs.SaveLaws.{unsaved-keeps}
 use Rattle.history_axis.specs.Levels.{primedAt}
 use Rattle.history_axis.specs.Entries.{numberOfE, bothChange}
 use Rattle.history_axis.specs.Tally.{placeTally, doublesTally, sum}
+use Rattle.history_axis.specs.Reference.{shown, EdgeAngle, Zero, homed, zeroAngle, Near}
 use Rattle.history_axis.specs.Shaft.{ShaftSample, rawAt, angleAt, turnedBy, AtMostTwo, Undisturbed}
 use Rattle.runs.specs.Told.{Told, refused, number}
 use Rattle.runs.specs.Op.{Op, reading}
-use Rattle.runs.specs.Run.{Call, tableRun, answerIn, heard, Says}
+use Rattle.runs.specs.Event.{asked}
+use Rattle.runs.specs.Run.{Call, names, tableRun, answerIn, heard, Says}
 use Rattle.runs.specs.Refusing.{RefusesExactly}
 use Rattle.history.specs.Phase.{phaseOf, toldRow, startAxis, actsSince}
 use Rattle.history.specs.Seen.{viewTold}
+use Rattle.history.specs.Lasting.{begins}
 use Rattle.history.specs.Shaft.{ShaftShown}
+use Rattle.history.specs.Reference.{zeroAfter}
 use Rattle.history.specs.Counter.{CounterReads}
 use Rattle.promises.specs.Own.{events, own, toldSince}
 use Rattle.promises.specs.Agreement.{BeginAlike, EndAlike}
+use Rattle.promises.specs.Edge.{axisAfter, Following, NextSample}
 use Rattle.promises.proofs.Refusing.{sample-says, call-says}
-use Rattle.promises.proofs.CountIsRight.{row-told, position-told, doubles-told, double-told, double-none}
+use Rattle.promises.proofs.CountIsRight.{row-told, position-told, doubles-told, double-told, bits-none}
 use Rattle.promises.proofs.UserSees.{view-told}
 use Rattle.promises.proofs.Shafts.{shaft-double, shaft-position, shaft-counter, shaft-reading}
+use Rattle.promises.proofs.Edges.{edge-homed, edge-position, edge-call, edge-other, edge-next}
 use Rattle.promises.proofs.Restoring.{restores-save, saves-restored, other-layout}
 use Rattle.promises.proofs.Apart.{ends-alike}
 use Rattle.promises.proofs.ToldAlone.{heard-told}
@@ -81,8 +87,8 @@ save-refused t b d k e = unsaved-keeps t k b e
 
 module _ (t : List ℕ) (k : ℕ) (words : AllWords t) (there : k < axesIn (length t)) where
   -- HEADLINE: after any run a sampled row's position, while RANGE is clear, is the last value set, restored or homed plus the net steps
-  -- that its mode counts on the filtered lines since; its doubles is the smaller of 65,535 and the double steps since setup, restore or
-  -- acknowledge; and a view shows position, flags and doubles as they are told.
+  -- that its mode counts on the filtered lines since, after a homing backward from the step of that sample on; its doubles is the smaller
+  -- of 65,535 and the double steps since setup, restore or acknowledge; and a view shows position, flags and doubles as they are told.
   pub count-told : (cs : List Call) → statusOf (rowAt (tableRun t cs) k) ≡ Sampled →
       (axisOf (rowAt (tableRun t cs) k) .flags .range ≡ false →
       positionOf (rowAt (tableRun t cs) k .w0)
@@ -103,7 +109,7 @@ module _ (t : List ℕ) (k : ℕ) (words : AllWords t) (there : k < axesIn (leng
       ≡ (primedAt (startAxis (rowAt t k) (own k cs)) (actsSince (rowAt t k) (own k cs))
       && bothChange (startAxis (rowAt t k) (own k cs)) (rawOf (nibble word k)) (actsSince (rowAt t k) (own k cs))))
       × (statusOf (rowAt (tableRun t cs) k) ≢ Sampled → flagOf k (m .doubles) ≡ false)
-  double-flagged cs word m e = (double-told t k words there cs word m e, double-none t k words there cs word m e)
+  double-flagged cs word m e = (double-told t k words there cs word m e, λ other. bits-none t k words there cs word m e other .0)
 
   -- HEADLINE: at depth 1, x4, with no call on axis k between and moves of at most two quarter steps, mask bit k stands at exactly the
   -- samples with two, and over any stretch without E or homing, while RANGE is clear, the position moves exactly as the shaft does.
@@ -117,6 +123,25 @@ module _ (t : List ℕ) (k : ℕ) (words : AllWords t) (there : k < axesIn (leng
       ≡ positionOf (rowAt (tableRun t cs) k .w0) +ℤ (angleAt first (new ++ old) -ℤ angleAt first old))
   shaft-followed s x d f cs old p =
       (shaft-double t k words there s x d f cs old p, λ ds new. shaft-position t k words there s x d f cs ds old new p)
+
+  -- HEADLINE: at depth 1, x4, with Z a function of the shaft's angle and moves of at most one quarter step: while RANGE is clear the
+  -- position is the angle less that of its zero, and since a home that is an edge's angle; mask bit k stands exactly where the shaft goes
+  -- over an edge's angle, either way; an armed axis is homed there, forward or backward, and has its zero there from then on; where it is
+  -- not armed, or goes over no edge, the zero stays, and so it does over every call that begins no phase but an accepted preset; and where
+  -- every edge lies a whole number of turns from the one homed over, no check sets INDEX, either way.
+  pub edge-followed : (z : ℤ → Bool) (cs : List Call) (b : ℤ) (o : Zero) → Following z t k cs b o →
+      (axisAfter t k cs .flags .range ≡ false → positionOf (axisAfter t k cs .word) ≡ b -ℤ zeroAngle o)
+      × ((a : ℤ) → o ≡ homed a → EdgeAngle z a)
+      × ((word : ℕ) (c : ℤ) → rawOf (nibble word k) ≡ shown z c → Near b c → NextSample z t k cs b o word c)
+      × ((op : Op) → begins (asked op) ≡ false → Following z t k (cs ++ (names k op ∷ [])) b (zeroAfter op b o))
+      × ((j : ℕ) (op : Op) → j ≢ k → Following z t k (cs ++ (names j op ∷ [])) b o)
+  edge-followed z cs b o on = (
+    edge-position t k words there z cs on,
+    λ a same. edge-homed t k words there z cs (subst (λ (p : Zero). Following z t k cs b p) same on),
+    edge-next t k words there z cs on,
+    edge-call t k words there z cs on,
+    edge-other t k words there z cs on,
+  )
 
   -- HEADLINE: a counter whose shaft stays in the range and moves less than half a counter turn from reading to reading is where the shaft
   -- is, whatever is refused or only looks between, and its next reading is answered by the shaft's true position.

@@ -10,5 +10,6 @@ pub mod Restoring
 pub mod LazyPrograms
 pub mod Asked
 pub mod Shafts
+pub mod Edges
 pub mod UserSees
 pub mod Refusing

@@ -1,3 +1,4 @@
 pub mod Readings
 pub mod Own
 pub mod Agreement
+pub mod Edge
