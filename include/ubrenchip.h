@@ -25,8 +25,8 @@ extern "C" {
 #endif
 
 /* The version of calls, rows, records and this header; CHANGELOG.md has its rule. */
-#define UBRENCHIP_VERSION "1.0.0"
-#define UBRENCHIP_VERSION_MAJOR 1
+#define UBRENCHIP_VERSION "2.0.0"
+#define UBRENCHIP_VERSION_MAJOR 2
 #define UBRENCHIP_VERSION_MINOR 0
 #define UBRENCHIP_VERSION_PATCH 0
 
@@ -120,12 +120,14 @@ typedef struct ubrenchip_sampled {
     uint32_t refusal;
     uint32_t found;   /* 0 */
     uint64_t doubles; /* a double step on this sample: the count is not to be trusted */
-    uint64_t index;   /* filtered Z rose on this sample */
+    uint64_t index;   /* a reference edge on this sample: see ubrenchip_sample */
     uint64_t broken;  /* the row is broken */
 } ubrenchip_sampled;
 
 /*
  * One sample of the port: axis k owns bits 4k to 4k + 3, which are A, B, Z and one that is not read.
+ * A reference edge is a rise of filtered Z on a step forward, or a fall of it on a step back: one angle of
+ * the shaft, from either side. A step is here what x4 counts, whatever the axis's own kind counts.
  * Refusal: LENGTH only. A broken row is marked and stops no other.
  */
 ubrenchip_sampled ubrenchip_sample(uint64_t *table, size_t words, uint64_t port);
@@ -144,7 +146,11 @@ ubrenchip_answer ubrenchip_erase(uint64_t *table, size_t words, uint64_t axis);
 /* Sets the position and clears RANGE and HOMED; sampled axes and counters. Refusal: VALUE. */
 ubrenchip_answer ubrenchip_preset(uint64_t *table, size_t words, uint64_t axis, int64_t position);
 
-/* Makes the next index rise home the axis: sets ARMED and clears HOMED. Sampled axes only. */
+/*
+ * Makes the next reference edge home the axis: sets ARMED and clears HOMED. The edge becomes position 0.
+ * After a step forward over it the axis stands there; after a step back it stands where that step leads
+ * from 0, at -1 in x4. Sampled axes only.
+ */
 ubrenchip_answer ubrenchip_arm(uint64_t *table, size_t words, uint64_t axis);
 
 /* Sets doubles to 0 and clears INDEX. Sampled axes only. */
@@ -161,7 +167,7 @@ typedef struct ubrenchip_viewed {
     uint32_t armed;
     uint32_t homed;
     uint32_t range;
-    uint32_t index;
+    uint32_t index;  /* a reference edge came at a position that is not a whole number of turns */
     uint32_t unused; /* 0 */
 } ubrenchip_viewed;
 

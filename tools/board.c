@@ -14,10 +14,10 @@
 
 enum { WORDS = UBRENCHIP_WORDS_A_ROW * UBRENCHIP_MOST_AXES };
 
-/* What the lines of sixteen axes show on sample i: nothing; a step on each sample and a rise of Z on each second one; or anything. */
+/* What the lines of sixteen axes show on sample i: nothing; A and Z that rise and fall together, which is a step and a reference edge on
+   each sample; or anything. */
 static uint64_t port_at(const char *lines, unsigned i)
 {
-    static const uint64_t cycle[] = {0, 1, 3, 2};
     static uint64_t random = 88172645463325252;
     random ^= random << 13;
     random ^= random >> 7;
@@ -25,7 +25,7 @@ static uint64_t port_at(const char *lines, unsigned i)
     if (!strcmp(lines, "chattering"))
         return random;
     if (!strcmp(lines, "rolling"))
-        return (cycle[i % 4] | i % 2 << 2) * UINT64_C(0x1111111111111111);
+        return i % 2 * UINT64_C(0x5555555555555555);
     return 0;
 }
 

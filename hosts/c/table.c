@@ -255,16 +255,198 @@ static void homing(void)
     shows("armed", ubrenchip_view(table, WORDS, 1), (ubrenchip_viewed){.kind = 4, .armed = 1});
     sampled("priming", ubrenchip_sample(table, WORDS, 0x00), (ubrenchip_sampled){0});
     sampled("step", ubrenchip_sample(table, WORDS, 0x10), (ubrenchip_sampled){0});
-    sampled("index", ubrenchip_sample(table, WORDS, 0x50), (ubrenchip_sampled){.index = 1 << 1});
+    sampled("Z rises on a step forward", ubrenchip_sample(table, WORDS, 0x70), (ubrenchip_sampled){.index = 1 << 1});
     shows("homed", ubrenchip_view(table, WORDS, 1), (ubrenchip_viewed){.kind = 4, .primed = 1, .homed = 1});
-    sampled("step, no index", ubrenchip_sample(table, WORDS, 0x30), (ubrenchip_sampled){0});
-    sampled("index at 1", ubrenchip_sample(table, WORDS, 0x70), (ubrenchip_sampled){.index = 1 << 1});
+    sampled("Z falls on a step forward", ubrenchip_sample(table, WORDS, 0x20), (ubrenchip_sampled){0});
+    shows("no edge", ubrenchip_view(table, WORDS, 1), (ubrenchip_viewed){.position = 1, .kind = 4, .primed = 1, .homed = 1});
+    sampled("an edge at 2", ubrenchip_sample(table, WORDS, 0x40), (ubrenchip_sampled){.index = 1 << 1});
     shows("INDEX", ubrenchip_view(table, WORDS, 1),
-          (ubrenchip_viewed){.position = 1, .kind = 4, .primed = 1, .homed = 1, .index = 1});
+          (ubrenchip_viewed){.position = 2, .kind = 4, .primed = 1, .homed = 1, .index = 1});
     done("acknowledge", ubrenchip_acknowledge(table, WORDS, 1));
-    shows("acknowledged", ubrenchip_view(table, WORDS, 1), (ubrenchip_viewed){.position = 1, .kind = 4, .primed = 1, .homed = 1});
+    shows("acknowledged", ubrenchip_view(table, WORDS, 1), (ubrenchip_viewed){.position = 2, .kind = 4, .primed = 1, .homed = 1});
+    sampled("step", ubrenchip_sample(table, WORDS, 0x10), (ubrenchip_sampled){0});
+    sampled("an edge at 4", ubrenchip_sample(table, WORDS, 0x70), (ubrenchip_sampled){.index = 1 << 1});
+    shows("a whole turn", ubrenchip_view(table, WORDS, 1), (ubrenchip_viewed){.position = 4, .kind = 4, .primed = 1, .homed = 1});
     done("preset", ubrenchip_preset(table, WORDS, 1, 7));
     shows("preset", ubrenchip_view(table, WORDS, 1), (ubrenchip_viewed){.position = 7, .kind = 4, .primed = 1});
+}
+
+/* Backward, an axis is homed where it stood before the step, and the step is counted from there. */
+static void homing_backward(void)
+{
+    empty();
+    done("setup, 4 a turn", ubrenchip_setup(table, WORDS, 1, 4, 1, 0, 4));
+    done("preset", ubrenchip_preset(table, WORDS, 1, 7));
+    done("arm", ubrenchip_arm(table, WORDS, 1));
+    sampled("priming", ubrenchip_sample(table, WORDS, 0x20), (ubrenchip_sampled){0});
+    sampled("Z rises on a step back", ubrenchip_sample(table, WORDS, 0x70), (ubrenchip_sampled){0});
+    shows("no edge", ubrenchip_view(table, WORDS, 1), (ubrenchip_viewed){.position = 6, .kind = 4, .primed = 1, .armed = 1});
+    sampled("Z falls on a step back", ubrenchip_sample(table, WORDS, 0x10), (ubrenchip_sampled){.index = 1 << 1});
+    shows("homed", ubrenchip_view(table, WORDS, 1), (ubrenchip_viewed){.position = -1, .kind = 4, .primed = 1, .homed = 1});
+    sampled("over the edge again", ubrenchip_sample(table, WORDS, 0x70), (ubrenchip_sampled){.index = 1 << 1});
+    shows("at 0", ubrenchip_view(table, WORDS, 1), (ubrenchip_viewed){.kind = 4, .primed = 1, .homed = 1});
+    sampled("and back", ubrenchip_sample(table, WORDS, 0x10), (ubrenchip_sampled){.index = 1 << 1});
+    shows("checked at 0", ubrenchip_view(table, WORDS, 1), (ubrenchip_viewed){.position = -1, .kind = 4, .primed = 1, .homed = 1});
+    sampled("Z rises with no step", ubrenchip_sample(table, WORDS, 0x50), (ubrenchip_sampled){0});
+    sampled("an edge at -1", ubrenchip_sample(table, WORDS, 0x00), (ubrenchip_sampled){.index = 1 << 1});
+    shows("INDEX", ubrenchip_view(table, WORDS, 1),
+          (ubrenchip_viewed){.position = -2, .kind = 4, .primed = 1, .homed = 1, .index = 1});
+    done("acknowledge", ubrenchip_acknowledge(table, WORDS, 1));
+    sampled("step", ubrenchip_sample(table, WORDS, 0x20), (ubrenchip_sampled){0});
+    sampled("Z rises with no step", ubrenchip_sample(table, WORDS, 0x60), (ubrenchip_sampled){0});
+    sampled("an edge at -3, which leads to -4", ubrenchip_sample(table, WORDS, 0x30), (ubrenchip_sampled){.index = 1 << 1});
+    shows("INDEX", ubrenchip_view(table, WORDS, 1),
+          (ubrenchip_viewed){.position = -4, .kind = 4, .primed = 1, .homed = 1, .index = 1});
+}
+
+/* One shaft on six axes, two of each mode. Three are homed as it turns forward over an edge, the others as it turns back over it: then the
+   two of a mode stand alike, wherever the edge lies among the codes, and whether their mode counts there or not. */
+static void either_side(void)
+{
+    static const uint64_t kinds[6] = {4, 2, 1, 4, 2, 1};
+    static const uint64_t codes[7] = {0, 1, 3, 2, 0, 1, 3};
+    /* In x4, x2 and x1, for an edge on the way to codes[1] up to codes[4]: a quarter step before the edge, and two beyond it. */
+    static const int64_t behind[4][3] = {{-1, -1, -1}, {-1, 0, 0}, {-1, -1, 0}, {-1, 0, 0}};
+    static const int64_t beyond[4][3] = {{2, 1, 0}, {2, 1, 0}, {2, 1, 1}, {2, 1, 1}};
+    static uint64_t all[24];
+    for (unsigned edge = 0; edge < 4; edge++) {
+        uint64_t ports[4]; /* on all six axes: before the mark, twice on it, and off it again */
+        for (unsigned i = 0; i < 4; i++)
+            ports[i] = (codes[edge + i] | (i == 1 || i == 2 ? 4u : 0)) * 0x111111;
+        for (unsigned i = 0; i < 6; i++) {
+            done("setup", ubrenchip_setup(all, 24, i, kinds[i], 1, 0, kinds[i]));
+            done("preset", ubrenchip_preset(all, 24, i, 1000));
+        }
+        for (unsigned i = 0; i < 3; i++)
+            done("arm", ubrenchip_arm(all, 24, i));
+        sampled("priming", ubrenchip_sample(all, 24, ports[0]), (ubrenchip_sampled){0});
+        sampled("over the edge", ubrenchip_sample(all, 24, ports[1]), (ubrenchip_sampled){.index = 0x3F});
+        sampled("on the mark", ubrenchip_sample(all, 24, ports[2]), (ubrenchip_sampled){0});
+        sampled("off the mark", ubrenchip_sample(all, 24, ports[3]), (ubrenchip_sampled){0});
+        for (unsigned i = 3; i < 6; i++)
+            done("arm", ubrenchip_arm(all, 24, i));
+        sampled("back onto the mark", ubrenchip_sample(all, 24, ports[2]), (ubrenchip_sampled){0});
+        sampled("back to the edge", ubrenchip_sample(all, 24, ports[1]), (ubrenchip_sampled){0});
+        sampled("back over the edge", ubrenchip_sample(all, 24, ports[0]), (ubrenchip_sampled){.index = 0x3F});
+        for (unsigned i = 0; i < 6; i++)
+            shows("before the edge", ubrenchip_view(all, 24, i),
+                  (ubrenchip_viewed){.position = behind[edge][i % 3], .kind = (uint32_t)kinds[i], .primed = 1, .homed = 1});
+        sampled("over the edge again", ubrenchip_sample(all, 24, ports[1]), (ubrenchip_sampled){.index = 0x3F});
+        for (unsigned i = 0; i < 6; i++)
+            shows("at the edge", ubrenchip_view(all, 24, i), (ubrenchip_viewed){.kind = (uint32_t)kinds[i], .primed = 1, .homed = 1});
+        sampled("on the mark again", ubrenchip_sample(all, 24, ports[2]), (ubrenchip_sampled){0});
+        sampled("off the mark again", ubrenchip_sample(all, 24, ports[3]), (ubrenchip_sampled){0});
+        for (unsigned i = 0; i < 6; i++)
+            shows("beyond the edge", ubrenchip_view(all, 24, i),
+                  (ubrenchip_viewed){.position = beyond[edge][i % 3], .kind = (uint32_t)kinds[i], .primed = 1, .homed = 1});
+    }
+}
+
+/* From any lines to any others: the eight edges home an armed axis of each mode, and check a homed one. Nothing else does, be it a fall of
+   Z on a step forward, a rise on a step back, or a change of Z with no step or a double one. Positions are looked at in x4; either_side
+   has those of x2 and x1. */
+static void every_change(void)
+{
+    static const uint64_t kinds[AXES] = {4, 2, 1, 4};
+    /* From lines to lines, A + 2B + 4Z: forward where Z rises, then back where it falls. */
+    static const uint8_t edges[8][2] = {{0, 5}, {1, 7}, {3, 6}, {2, 4}, {5, 0}, {7, 1}, {6, 3}, {4, 2}};
+    /* What x4 counts from code to code. */
+    static const int64_t counts[4][4] = {{0, 1, -1, 0}, {-1, 0, 0, 1}, {1, 0, 0, -1}, {0, -1, 1, 0}};
+    for (unsigned from = 0; from < 8; from++) {
+        for (unsigned to = 0; to < 8; to++) {
+            const int64_t count = counts[from & 3][to & 3];
+            uint32_t edge = 0;
+            for (unsigned i = 0; i < 8; i++)
+                edge |= edges[i][0] == from && edges[i][1] == to;
+            empty();
+            for (unsigned i = 0; i < AXES; i++) {
+                done("setup, 4 a turn", ubrenchip_setup(table, WORDS, i, kinds[i], 1, 0, 4));
+                done("preset", ubrenchip_preset(table, WORDS, i, 2));
+                if (i < 3)
+                    done("arm", ubrenchip_arm(table, WORDS, i));
+            }
+            sampled("priming", ubrenchip_sample(table, WORDS, from * 0x1111u), (ubrenchip_sampled){0});
+            table[13] |= HOMED;
+            sampled("from lines to lines", ubrenchip_sample(table, WORDS, to * 0x1111u),
+                    (ubrenchip_sampled){.doubles = ((from ^ to) & 3) == 3 ? 0xF : 0, .index = edge ? 0xF : 0});
+            for (unsigned i = 0; i < 3; i++) {
+                ubrenchip_viewed viewed = ubrenchip_view(table, WORDS, i);
+                same("armed still", viewed.armed, !edge);
+                same("homed", viewed.homed, edge);
+                same("not checked", viewed.index, 0);
+            }
+            same("where an edge homes, or not", table[0], at(!edge ? 2 + count : count < 0 ? -1 : 0));
+            same("a homed axis counts on", table[12], at(2 + count));
+            same("and is checked", ubrenchip_view(table, WORDS, 3).index, edge);
+        }
+    }
+}
+
+/* It is the filtered lines that make an edge: at depth 3 on the third sample, and none where Z is a sample late. */
+static void filtered_edges(void)
+{
+    empty();
+    for (unsigned i = 0; i < 2; i++) {
+        done("setup", ubrenchip_setup(table, WORDS, i, 4, 3, 0, 0));
+        done("preset", ubrenchip_preset(table, WORDS, i, 7));
+        done("arm", ubrenchip_arm(table, WORDS, i));
+    }
+    sampled("priming", ubrenchip_sample(table, WORDS, 0x55), (ubrenchip_sampled){0});
+    sampled("A falls, and Z of axis 0", ubrenchip_sample(table, WORDS, 0x40), (ubrenchip_sampled){0});
+    sampled("Z of axis 1 falls", ubrenchip_sample(table, WORDS, 0x00), (ubrenchip_sampled){0});
+    sampled("filtered A and Z", ubrenchip_sample(table, WORDS, 0x00), (ubrenchip_sampled){.index = 1 << 0});
+    sampled("filtered Z alone", ubrenchip_sample(table, WORDS, 0x00), (ubrenchip_sampled){0});
+    shows("homed", ubrenchip_view(table, WORDS, 0), (ubrenchip_viewed){.position = -1, .kind = 4, .primed = 1, .homed = 1});
+    shows("no edge", ubrenchip_view(table, WORDS, 1), (ubrenchip_viewed){.position = 6, .kind = 4, .primed = 1, .armed = 1});
+}
+
+/* Axes at the ends of the range, two that were held there and two that were not: an edge homes all alike, and RANGE is clear. */
+static void homing_at_the_ends(void)
+{
+    static const int64_t ends[AXES] = {-TOP, -TOP, TOP, TOP};
+    static const uint32_t held[AXES] = {1, 0, 1, 0};
+    /* Priming, a step out of the range where one is to be held, and the edge: backward, then forward. */
+    static const uint64_t ports[2][3] = {{0x5457, 0x5555, 0x0000}, {0x0201, 0x0000, 0x5555}};
+    static const int64_t homed[2] = {-1, 0};
+    for (unsigned way = 0; way < 2; way++) {
+        empty();
+        for (unsigned i = 0; i < AXES; i++) {
+            done("setup", ubrenchip_setup(table, WORDS, i, 4, 1, 0, 0));
+            done("preset to an end", ubrenchip_preset(table, WORDS, i, ends[i]));
+            done("arm", ubrenchip_arm(table, WORDS, i));
+        }
+        sampled("priming", ubrenchip_sample(table, WORDS, ports[way][0]), (ubrenchip_sampled){0});
+        sampled("out of the range", ubrenchip_sample(table, WORDS, ports[way][1]), (ubrenchip_sampled){0});
+        for (unsigned i = 0; i < AXES; i++)
+            shows("at the end", ubrenchip_view(table, WORDS, i),
+                  (ubrenchip_viewed){.position = ends[i], .kind = 4, .primed = 1, .armed = 1, .range = held[i]});
+        sampled("an edge", ubrenchip_sample(table, WORDS, ports[way][2]), (ubrenchip_sampled){.index = 0xF});
+        for (unsigned i = 0; i < AXES; i++)
+            shows("homed", ubrenchip_view(table, WORDS, i),
+                  (ubrenchip_viewed){.position = homed[way], .kind = 4, .primed = 1, .homed = 1});
+    }
+}
+
+/* Homed axes at the bottom of the range, or one above it: backward they are checked there, and then held or moved. 2^62 - 1 is a multiple
+   of 3 and not of 4, 2^62 - 2 one of 2 and not of 3. */
+static void checking_at_the_bottom(void)
+{
+    static const int64_t from[AXES] = {-TOP, -TOP, 1 - TOP, 1 - TOP};
+    static const uint64_t turns[AXES] = {3, 4, 2, 3};
+    static const uint32_t held[AXES] = {1, 1, 0, 0};
+    static const uint32_t off[AXES] = {0, 1, 0, 1};
+    empty();
+    for (unsigned i = 0; i < AXES; i++) {
+        done("setup", ubrenchip_setup(table, WORDS, i, 4, 1, 0, turns[i]));
+        done("preset", ubrenchip_preset(table, WORDS, i, from[i]));
+    }
+    sampled("priming", ubrenchip_sample(table, WORDS, 0x5555), (ubrenchip_sampled){0});
+    for (unsigned i = 0; i < AXES; i++)
+        table[4 * i + 1] |= HOMED;
+    sampled("an edge backward", ubrenchip_sample(table, WORDS, 0x0000), (ubrenchip_sampled){.index = 0xF});
+    for (unsigned i = 0; i < AXES; i++)
+        shows("at the bottom", ubrenchip_view(table, WORDS, i),
+              (ubrenchip_viewed){.position = -TOP, .kind = 4, .primed = 1, .homed = 1, .range = held[i], .index = off[i]});
 }
 
 /* Armed axes at 7 whose first sample has Z at 1: they take the levels as they are and no more, whatever the code and the depth. */
@@ -287,9 +469,11 @@ static void priming(void)
     }
     sampled("Z stays", ubrenchip_sample(table, WORDS, 0x5567), (ubrenchip_sampled){0});
     sampled("Z falls", ubrenchip_sample(table, WORDS, 0x1123), (ubrenchip_sampled){0});
-    sampled("Z rises where the depth is 1", ubrenchip_sample(table, WORDS, 0x5567), (ubrenchip_sampled){.index = 1 << 0 | 1 << 2});
+    sampled("an edge where the depth is 1", ubrenchip_sample(table, WORDS, 0x7746), (ubrenchip_sampled){.index = 1 << 0 | 1 << 2});
     shows("homed", ubrenchip_view(table, WORDS, 0), (ubrenchip_viewed){.kind = 4, .primed = 1, .homed = 1});
     shows("not yet", ubrenchip_view(table, WORDS, 1), (ubrenchip_viewed){.position = 7, .kind = 4, .primed = 1, .armed = 1});
+    shows("homed in x2", ubrenchip_view(table, WORDS, 2), (ubrenchip_viewed){.kind = 2, .primed = 1, .homed = 1});
+    shows("not yet", ubrenchip_view(table, WORDS, 3), (ubrenchip_viewed){.position = 7, .kind = 1, .primed = 1, .armed = 1});
 }
 
 /* More double steps than are counted, in every mode and between both pairs of codes: each is marked, and doubles stay at 65,535. */
@@ -533,8 +717,9 @@ static void sixteen_axes(void)
     static uint64_t all[68];
     done("setup of axis 15", ubrenchip_setup(all, 64, 15, 4, 1, 0, 0));
     sampled("priming", ubrenchip_sample(all, 64, 0), (ubrenchip_sampled){0});
-    sampled("axis 15", ubrenchip_sample(all, 64, UINT64_MAX), (ubrenchip_sampled){.doubles = 1 << 15, .index = 1 << 15});
-    shows("axis 15", ubrenchip_view(all, 64, 15), (ubrenchip_viewed){.kind = 4, .doubles = 1, .primed = 1});
+    sampled("a double step of axis 15", ubrenchip_sample(all, 64, UINT64_MAX), (ubrenchip_sampled){.doubles = 1 << 15});
+    sampled("an edge of axis 15", ubrenchip_sample(all, 64, (uint64_t)1 << 60), (ubrenchip_sampled){.index = 1 << 15});
+    shows("axis 15", ubrenchip_view(all, 64, 15), (ubrenchip_viewed){.position = -1, .kind = 4, .doubles = 1, .primed = 1});
     sampled("17 axes", ubrenchip_sample(all, 68, 0), (ubrenchip_sampled){.refusal = UBRENCHIP_LENGTH});
     refused("17 axes", ubrenchip_erase(all, 68, 0), UBRENCHIP_LENGTH);
 }
@@ -547,6 +732,12 @@ int main(void)
     filter();
     limit();
     homing();
+    homing_backward();
+    either_side();
+    every_change();
+    filtered_edges();
+    homing_at_the_ends();
+    checking_at_the_bottom();
     priming();
     every_double();
     readings();

@@ -62,8 +62,9 @@ fn main() -> ExitCode {
 fn random_rows(seed: u64) {
     let random = &mut Random::new(seed);
     for _ in 0..1000 {
-        let axis = rows::axis(random);
-        assert_eq!(Row::unpack(&axis.pack()), Row::Live(axis));
+        for axis in [rows::axis(random), rows::poised(random)] {
+            assert_eq!(Row::unpack(&axis.pack()), Row::Live(axis));
+        }
     }
     for (way, (name, ..)) in rows::WAYS.iter().enumerate() {
         for _ in 0..50 {
@@ -94,7 +95,7 @@ fn no_difference(options: &Options) -> bool {
 
 fn all_faults_found(options: &Options) -> bool {
     let mut all = true;
-    for (fault, name) in Fault::SEEN {
+    for (fault, name) in Fault::ALL {
         match compare(options.seed, options.calls, fault) {
             Err(difference) if difference.is_the_faults() => {
                 println!("{name}: found after {} calls, in {}", difference.calls, difference.call.name());

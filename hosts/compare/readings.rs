@@ -70,6 +70,7 @@ pub fn readings(side: &mut dyn FnMut(&Call, &mut Memory) -> Outcome) {
     filtering(bench);
     widening(bench);
     holding(bench);
+    homing(bench);
     speeds(bench);
     setting_up(bench);
     saving(bench);
@@ -121,6 +122,15 @@ fn holding(bench: &mut Bench) {
     assert_eq!((bench.position(), bench.view().range), (TOP, 1));
     bench.samples(&[0]);
     assert_eq!((bench.position(), bench.view().range), (TOP - 1, 1));
+}
+
+fn homing(bench: &mut Bench) {
+    for (samples, position) in [([0, 5], 0), ([5, 0], -1)] {
+        bench.start(4, 1);
+        bench.value(Call::Arm { axis: 0 });
+        bench.samples(&samples);
+        assert_eq!((bench.position(), bench.view().homed), (position, 1), "armed, samples {samples:?}");
+    }
 }
 
 fn speeds(bench: &mut Bench) {

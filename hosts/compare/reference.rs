@@ -295,7 +295,7 @@ impl Axis {
         }
     }
 
-    /// Index: homes an armed axis, and checks a homed one.
+    /// Index, at a reference edge: homes an armed axis, and checks a homed one.
     fn meet_index(&mut self) {
         if self.armed {
             self.position = 0;
@@ -334,6 +334,14 @@ fn code(levels: [bool; 3]) -> usize {
     usize::from(levels[0]) + 2 * usize::from(levels[1])
 }
 
+/// A reference edge ("Index"): the end of the index mark that the shaft comes in by when it turns forward, and goes out by
+/// when it turns back.
+#[derive(Clone, Copy, PartialEq, Eq)]
+enum Edge {
+    Forward,
+    Backward,
+}
+
 /// What a port sample tells of the axes, one bit for each.
 #[derive(Clone, Copy, Default)]
 pub struct Masks {
@@ -342,7 +350,7 @@ pub struct Masks {
     pub broken: u16,
 }
 
-/// An error seen in the field, put in on purpose to show that the comparison finds it.
+/// An error, put in on purpose to show that the comparison finds it.
 #[derive(Clone, Copy, PartialEq, Eq, Debug)]
 pub enum Fault {
     None,
@@ -351,16 +359,26 @@ pub enum Fault {
     DoubleAsTwoSteps,
     Truncated,
     BrokenRefusesAll,
+    AnyRiseOfZ,
+    ModeChoosesEdge,
+    CheckedAfterCount,
+    SwallowedStep,
+    HeldStepMarked,
 }
 
 impl Fault {
-    /// The five errors and what each does.
-    pub const SEEN: [(Fault, &'static str); 5] = [
+    /// The errors and what each does: five that were seen in the field, and five ways to get a reference edge wrong.
+    pub const ALL: [(Fault, &'static str); 10] = [
         (Fault::ComparedBeforeReducing, "a reading compared with the position before reducing"),
         (Fault::EveryRise, "x1 counting every rise of A"),
         (Fault::DoubleAsTwoSteps, "a double step taken as two steps in the last direction"),
         (Fault::Truncated, "a negative speed divided by truncation"),
         (Fault::BrokenRefusesAll, "a whole port sample refused because of one broken row"),
+        (Fault::AnyRiseOfZ, "homing on any rise of Z"),
+        (Fault::ModeChoosesEdge, "the reference edge chosen by the mode's entry in place of x4's"),
+        (Fault::CheckedAfterCount, "a check backward after the count"),
+        (Fault::SwallowedStep, "a homing backward that swallows its own step"),
+        (Fault::HeldStepMarked, "RANGE left set where the step that homes starts at the end of the range"),
     ];
 }
 
@@ -383,9 +401,9 @@ impl Reference {
                 Row::Broken => masks.broken |= 1 << number,
                 Row::Live(axis) if axis.kind == Kind::Counter => {}
                 Row::Live(mut axis) => {
-                    let (double, rise) = self.step(&mut axis, port >> (4 * number));
+                    let (double, edge) = self.step(&mut axis, port >> (4 * number));
                     masks.doubles |= u16::from(double) << number;
-                    masks.index |= u16::from(rise) << number;
+                    masks.index |= u16::from(edge) << number;
                     row.copy_from_slice(&axis.pack());
                 }
             }
@@ -394,7 +412,7 @@ impl Reference {
     }
 
     /// One sample on a sampled axis; the lowest three bits of `lines` are A, B and Z. Answers whether it was a double
-    /// step and whether filtered Z rose.
+    /// step and whether it was a reference edge.
     fn step(&self, axis: &mut Axis, lines: u64) -> (bool, bool) {
         let raw = [0, 1, 2].map(|line| bits(lines, line, 1) == 1);
         if !axis.primed {
@@ -409,12 +427,41 @@ impl Reference {
             axis.count(axis.direction);
             axis.count(axis.direction);
         }
-        axis.take(entry);
-        let rise = !before[2] && axis.levels[2];
-        if rise {
+        let edge = self.edge(axis.kind, before, axis.levels);
+        let homes = edge.is_some() && axis.armed;
+        let held = matches!(entry, Entry::Step(sign) if !is_position(axis.position + sign));
+        // The edge lies where a step forward ends, and where a step back starts.
+        let index_first = match edge {
+            Some(Edge::Backward) if homes => self.fault != Fault::SwallowedStep,
+            Some(Edge::Backward) => self.fault != Fault::CheckedAfterCount,
+            _ => false,
+        };
+        if index_first {
             axis.meet_index();
         }
-        (entry == Entry::Double, rise)
+        axis.take(entry);
+        if edge.is_some() && !index_first {
+            axis.meet_index();
+        }
+        if self.fault == Fault::HeldStepMarked && homes && held {
+            axis.range = true;
+        }
+        (entry == Entry::Double, edge.is_some())
+    }
+
+    /// The reference edge on the way from some filtered levels to others, if there is one: Z rises on a step forward, or
+    /// falls on a step back. What is a step is for x4 to say, whatever the axis counts.
+    fn edge(&self, kind: Kind, before: [bool; 3], after: [bool; 3]) -> Option<Edge> {
+        let (was, is) = (before[2], after[2]);
+        if self.fault == Fault::AnyRiseOfZ {
+            return (!was && is).then_some(Edge::Forward);
+        }
+        let kind = if self.fault == Fault::ModeChoosesEdge { kind } else { Kind::X4 };
+        match (self.entry(kind, code(before), code(after)), was, is) {
+            (Entry::Step(1), false, true) => Some(Edge::Forward),
+            (Entry::Step(-1), true, false) => Some(Edge::Backward),
+            _ => None,
+        }
     }
 
     fn entry(&self, kind: Kind, old: usize, new: usize) -> Entry {
@@ -670,7 +717,7 @@ pub fn write_record(axis: &Axis) -> Vec<u8> {
 fn take_field<const N: usize>(left: &mut &[u8], tag: u8) -> Result<[u8; N], Refusal> {
     let [high, low] = (N as u16).to_be_bytes();
     let value = left.strip_prefix(&[tag, high, low]).ok_or(Refusal::Record)?;
-    let (value, rest) = value.split_at_checked(N).ok_or(Refusal::Record)?;
+    let (value, rest) = (value.len() >= N).then(|| value.split_at(N)).ok_or(Refusal::Record)?;
     *left = rest;
     Ok(value.try_into().expect("a value of N bytes"))
 }

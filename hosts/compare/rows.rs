@@ -92,6 +92,19 @@ fn primed(random: &mut Random) -> Axis {
     }
 }
 
+/// A primed axis that the next reference edge homes or checks: at an end of the range, or at or beside a few whole turns.
+pub fn poised(random: &mut Random) -> Axis {
+    let axis = primed(random);
+    let turn = random.below(9) as u32;
+    let position = match random.below(4) {
+        0 => -LIMIT,
+        1 => LIMIT,
+        _ => random.around(3) * i64::from(turn) + random.around(1),
+    };
+    let armed = random.coin();
+    Axis { turn, position, armed, homed: !armed, index: turn > 0 && axis.index, ..axis }
+}
+
 pub fn counter(random: &mut Random) -> Axis {
     let new = Axis::new(Kind::Counter.number(), 0, random.between(2, 32), 0).expect("limits are kept");
     Axis { position: position(random, 0), ..new }

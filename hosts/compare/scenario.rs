@@ -13,6 +13,8 @@ pub struct Scenario {
     quiet: bool,
     /// Whether nearly every call is a port sample.
     sampling: bool,
+    /// Whether the rows wait for a reference edge, and every call is a port sample or goes with homing.
+    homing: bool,
     left: u64,
 }
 
@@ -21,18 +23,25 @@ impl Scenario {
         let legal = !random.once_in(12);
         let words = if legal { 4 * random.between(1, MOST_AXES as u64) } else { illegal_length(random) };
         let mut memory = Memory::new(words as usize, || random.word());
+        let homing = legal && random.once_in(3);
         let flawed = random.pick(&[0, 0, 1, 4]);
         for row in memory.table_mut().chunks_mut(4) {
-            let new = if random.below(8) < flawed { rows::broken(random) } else { rows::sound(random) };
+            let new = if random.below(8) < flawed {
+                rows::broken(random)
+            } else if homing {
+                rows::poised(random).pack()
+            } else {
+                rows::sound(random)
+            };
             row.copy_from_slice(&new[..row.len()]);
         }
-        let sampling = legal && random.once_in(4);
+        let sampling = legal && !homing && random.once_in(4);
         let left = match (legal, sampling) {
             (false, _) => random.between(1, 20),
             (true, false) => random.between(10, 300),
             (true, true) => random.between(10, 1500),
         };
-        let quiet = random.once_in(6);
+        let quiet = !homing && random.once_in(6);
         let port = [(); MOST_AXES].map(|()| {
             let mut lines = Lines::at_rest(random);
             if !quiet {
@@ -40,12 +49,15 @@ impl Scenario {
             }
             lines
         });
-        Scenario { memory, port, quiet, sampling, left }
+        Scenario { memory, port, quiet, sampling, homing, left }
     }
 
     /// The next call, unless the scenario is over. The bytes that it lends go into the memory.
     pub fn next_call(&mut self, random: &mut Random) -> Option<Call> {
         self.left = self.left.checked_sub(1)?;
+        if self.homing {
+            return Some(self.call_of_homing(random));
+        }
         let kind = if self.sampling && !random.once_in(24) { 0 } else { random.below(20) };
         Some(match kind {
             0 | 1 => Call::Sample { port: self.sample(random) },
@@ -63,6 +75,17 @@ impl Scenario {
             }
             _ => self.call_of_one_axis(random),
         })
+    }
+
+    /// A port sample, or a call that changes what the next reference edge finds.
+    fn call_of_homing(&mut self, random: &mut Random) -> Call {
+        let axis = random.below(self.memory.table().len() as u64 / 4);
+        match random.below(20) {
+            0 | 1 => Call::Arm { axis },
+            2 => Call::Preset { axis, position: random.pick(&[-LIMIT, 0, LIMIT]) },
+            3 => Call::Acknowledge { axis },
+            _ => Call::Sample { port: self.sample(random) },
+        }
     }
 
     fn call_of_one_axis(&mut self, random: &mut Random) -> Call {
@@ -125,8 +148,12 @@ fn illegal_length(random: &mut Random) -> u64 {
 #[derive(Clone, Copy)]
 enum Motion {
     Resting,
-    /// The shaft turns by so many quarter steps at a time.
-    Turning(u8),
+    /// The shaft turns one way, by a quarter step forward (1) or back (-1) at a time.
+    Turning(i8),
+    /// It turns to and fro, and Z is anything.
+    Swinging,
+    /// It turns to and fro over an index mark: Z goes by the angle.
+    Crossing,
     /// It jumps anywhere.
     Jumping,
     /// One line flutters.
@@ -137,7 +164,8 @@ enum Motion {
 
 struct Lines {
     motion: Motion,
-    quarter: u8,
+    /// The shaft's angle, in quarter steps.
+    angle: u8,
     z: bool,
     /// Samples from one step to the next, and how many are still to come.
     hold: u64,
@@ -146,15 +174,17 @@ struct Lines {
 
 impl Lines {
     fn at_rest(random: &mut Random) -> Lines {
-        Lines { motion: Motion::Resting, quarter: random.below(4) as u8, z: random.coin(), hold: 1, wait: 1 }
+        Lines { motion: Motion::Resting, angle: random.below(4) as u8, z: random.coin(), hold: 1, wait: 1 }
     }
 
     fn change(&mut self, random: &mut Random) {
-        self.motion = match random.below(8) {
+        self.motion = match random.below(12) {
             0 => Motion::Resting,
-            1..=4 => Motion::Turning(random.pick(&[1, 3])),
-            5 => Motion::Jumping,
-            6 => Motion::Chattering(random.below(3) as u8),
+            1..=4 => Motion::Turning(random.pick(&[1, -1])),
+            5 | 6 => Motion::Swinging,
+            7 | 8 => Motion::Crossing,
+            9 => Motion::Jumping,
+            10 => Motion::Chattering(random.below(3) as u8),
             _ => Motion::Noise,
         };
         self.hold = if random.coin() { random.between(1, 3) } else { random.between(1, 16) };
@@ -168,7 +198,7 @@ impl Lines {
             self.wait = self.hold;
             self.step(random);
         }
-        let code = [0, 1, 3, 2][usize::from(self.quarter % 4)];
+        let code = [0, 1, 3, 2][usize::from(self.angle % 4)];
         let levels = code | u64::from(self.z) << 2;
         match self.motion {
             Motion::Chattering(line) => levels ^ u64::from(random.coin()) << line,
@@ -179,12 +209,20 @@ impl Lines {
 
     fn step(&mut self, random: &mut Random) {
         match self.motion {
-            Motion::Turning(quarters) => {
-                self.quarter = (self.quarter + quarters) % 4;
+            Motion::Turning(way) => {
+                self.angle = self.angle.wrapping_add_signed(way);
                 self.z = random.once_in(5);
             }
+            Motion::Swinging => {
+                self.angle = self.angle.wrapping_add_signed(random.pick(&[1, -1]));
+                self.z = random.coin();
+            }
+            Motion::Crossing => {
+                self.angle = self.angle.wrapping_add_signed(random.pick(&[1, -1]));
+                self.z = self.angle % 8 < 3;
+            }
             Motion::Jumping => {
-                self.quarter = random.below(4) as u8;
+                self.angle = random.below(4) as u8;
                 self.z = random.coin();
             }
             Motion::Resting | Motion::Chattering(_) | Motion::Noise => {}

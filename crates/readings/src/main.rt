@@ -7,6 +7,7 @@ use reckon::widening::widen;
 use speed::by_count;
 use table::look::speed;
 use table::reading::reading;
+use table_change::change::arm;
 use table_change::change::preset;
 use table_change::setup::setup;
 use table_port::sample;
@@ -55,6 +56,21 @@ fn held() -> bool {
         && say::viewed(b"then code 0: ", repeat(after, 0, 1))
 }
 
+// An x4 axis with four counts a turn, armed.
+fn armed() -> [u64; 4] {
+    let mut table = made(Kind::X4, 1, 0, 4);
+    arm(&mut table, 0);
+    table
+}
+
+// One edge, Z up from code 1 on, that homes from either side.
+fn homed() -> bool {
+    let forward = repeat(repeat(armed(), 0, 1), 5, 1);
+    let backward = repeat(repeat(armed(), 5, 1), 0, 1);
+    say::viewed(b"x4 armed, code 0, then code 1 with Z: ", forward)
+        && say::viewed(b"x4 armed, code 1 with Z, then code 0: ", backward)
+}
+
 // Speeds by count.
 fn counted() -> bool {
     say::speed(b"speed by count 1, T 2001, F 1: ", by_count(1, 2001, 1))
@@ -93,7 +109,7 @@ fn saved() -> bool {
 }
 
 fn main() {
-    if !(narrow() && held() && counted() && paced() && set_up() && saved()) {
+    if !(narrow() && held() && homed() && counted() && paced() && set_up() && saved()) {
         os::fail(b"readings: standard output");
     }
 }

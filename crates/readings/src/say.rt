@@ -69,10 +69,12 @@ pub fn done(label: &[u8], answer: Done) -> bool {
     text(label) && done_value(answer) && end()
 }
 
-// The position of a table's axis and whether RANGE is set, or the reason.
+// The position of a table's axis and whether HOMED and RANGE are set, or the reason.
 fn viewed_value(answer: Viewed) -> bool {
     match answer {
-        Viewed::Shows(v) => number(v.position) && (!v.range || text(b" RANGE")),
+        Viewed::Shows(v) => {
+            number(v.position) && (!v.homed || text(b" HOMED")) && (!v.range || text(b" RANGE"))
+        }
         Viewed::Refused(e) => reason(e),
     }
 }

@@ -122,7 +122,7 @@ impl fmt::Display for Refusal {
 pub struct Sampled {
     /// A double step on this sample: the count is not to be trusted.
     pub doubles: u64,
-    /// The index line rose on this sample: filtered Z went from 0 to 1.
+    /// A reference edge on this sample: see [`Table::sample`](crate::Table::sample).
     pub index: u64,
     /// The row is broken, and stays as it is.
     pub broken: u64,
@@ -139,13 +139,13 @@ pub struct View {
     pub position: i64,
     /// PRIMED: the axis has seen a first sample, and counts.
     pub primed: bool,
-    /// ARMED: the next index rise will set the position to 0.
+    /// ARMED: the next reference edge will become position 0.
     pub armed: bool,
-    /// HOMED: an index rise set the position to 0, and neither a preset nor an arm came since.
+    /// HOMED: a reference edge became position 0, and neither a preset nor an arm came since.
     pub homed: bool,
     /// RANGE: a step was not counted, since the position was at the end of its range.
     pub range: bool,
-    /// INDEX: an index rise came at a position that is not a whole number of turns.
+    /// INDEX: a reference edge came at a position that is not a whole number of turns.
     pub index: bool,
     /// How many double steps were seen, up to [`DOUBLES_LIMIT`](crate::DOUBLES_LIMIT).
     pub doubles: u32,

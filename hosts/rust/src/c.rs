@@ -55,7 +55,7 @@ pub struct Sampled {
     pub found: u32,
     /// A double step on this sample.
     pub doubles: u64,
-    /// Filtered Z rose on this sample.
+    /// A reference edge on this sample.
     pub index: u64,
     /// The row is broken.
     pub broken: u64,

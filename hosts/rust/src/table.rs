@@ -37,6 +37,10 @@ impl<'a> Table<'a> {
     /// Takes one sample of the port: axis k owns bits 4k to 4k + 3, which are A, B, Z and one that
     /// is not read.
     ///
+    /// A reference edge is a rise of filtered Z on a step forward, or a fall of it on a step back:
+    /// one angle of the shaft, from either side. A step is here what x4 counts, whatever the axis's
+    /// own kind counts.
+    ///
     /// It refuses Length, and nothing else: empty rows and counters are passed over, a broken row is
     /// marked in the answer and stops no other, and bits of axes that the table has not are ignored.
     pub fn sample(&mut self, port: u64) -> Result<Sampled, Refusal> {
@@ -79,7 +83,10 @@ impl<'a> Table<'a> {
         unsafe { c::ubrenchip_preset(table, words, axis, position) }.done()
     }
 
-    /// Makes the next index rise home the axis: sets ARMED and clears HOMED.
+    /// Makes the next reference edge home the axis: sets ARMED and clears HOMED.
+    ///
+    /// The edge becomes position 0. After a step forward over it the axis stands there; after a
+    /// step back it stands where that step leads from 0, at -1 in x4.
     ///
     /// It refuses Length, Axis, Broken, Empty, and then Kind for a counter.
     pub fn arm(&mut self, axis: u64) -> Result<(), Refusal> {

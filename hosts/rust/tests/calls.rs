@@ -133,8 +133,8 @@ fn sample_marks_axes_by_their_bits() {
             ..quiet
         })
     );
-    assert_eq!(table.sample(0x034), Ok(Sampled { index: 1, ..quiet }));
-    assert_eq!(table.sample(0x024), Ok(quiet));
+    assert_eq!(table.sample(0x035), Ok(Sampled { index: 1, ..quiet }));
+    assert_eq!(table.sample(0x025), Ok(quiet));
     let view = table.view(1).unwrap();
     assert_eq!((view.doubles, view.position), (1, 1));
     assert_eq!(table.words()[8..], [0, 0, 0, 1]);
@@ -225,9 +225,9 @@ fn arm_and_acknowledge() {
     table.preset(0, 100).unwrap();
     assert_eq!(table.arm(0), Ok(()));
     assert!(table.view(0).unwrap().armed);
-    // The index line rises and homes; it falls, two steps are counted, and it rises off a turn.
-    samples(&mut table, &[0, 4, 0, 1, 3, 7]);
-    samples(&mut table, &[0]); // both lines at once
+    // A reference edge homes; Z falls on a step forward, which is none; the next one is off a turn.
+    samples(&mut table, &[0, 5, 3, 6]);
+    samples(&mut table, &[1]); // both lines at once
     let view = View {
         kind: KIND_X4,
         position: 2,
@@ -252,6 +252,34 @@ fn arm_and_acknowledge() {
     let mut table = counter(&mut words, 5);
     assert_eq!(table.arm(0), Err(Refusal::Kind));
     assert_eq!(table.acknowledge(0), Err(Refusal::Kind));
+}
+
+#[test]
+fn arm_homes_at_one_angle_from_either_side() {
+    let mut words = [0; 8];
+    let mut table = Table::new(&mut words);
+    for (axis, position) in [(0, 100), (1, -100)] {
+        table.setup(axis, KIND_X4, 1, 0, 4).unwrap();
+        table.preset(axis, position).unwrap();
+    }
+    let quiet = Sampled {
+        doubles: 0,
+        index: 0,
+        broken: 0,
+    };
+    let edge = Sampled { index: 3, ..quiet };
+    // One shaft on both axes: forward over the mark, and back.
+    table.arm(0).unwrap();
+    let forward = [0x00, 0x55, 0x77, 0x22].map(|port| table.sample(port));
+    assert_eq!(forward, [quiet, edge, quiet, quiet].map(Ok));
+    assert_eq!(table.view(0).unwrap().position, 2);
+    table.arm(1).unwrap();
+    let back = [0x77, 0x55, 0x00].map(|port| table.sample(port));
+    assert_eq!(back, [quiet, quiet, edge].map(Ok));
+    for axis in [0, 1] {
+        let view = table.view(axis).unwrap();
+        assert_eq!((view.position, view.homed, view.index), (-1, true, false));
+    }
 }
 
 #[test]
