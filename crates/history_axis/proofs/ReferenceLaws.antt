@@ -7,7 +7,7 @@ use mathlib.Core.List.{List, [], _∷_}
 use Prim.Native.Nat.{ℕ, zero, suc, _+_, _*_, _%_, _≤_}
 use native.Mathlib.Nat.{mod-eq-of-lt, add-mul-mod-self-right}
 use native.Mathlib.Omega.{arith}
-use borrow.Author.Tests.{ltb-true}
+use borrow.Author.Tests.{ltb-true, ne-eqb}
 use lib.Dec.{eqb, ltb}
 use lib.IntN.{ℤ, pos, negsuc, natAbs, _+ℤ_, _-ℤ_, _*ℤ_}
 use Rattle.integers.specs.Integer.{plus, minus}
@@ -34,7 +34,7 @@ use Rattle.history_axis.specs.Reference.{shown, EdgeAngle, Over, ahead, 
 use Rattle.history_axis.specs.Reference.{Follows, first, turns, homes, presets, arms, acknowledges, WholeTurns}
 use Rattle.history_axis.proofs.LevelsLaws.{level-one}
 use Rattle.history_axis.proofs.EntriesLaws.{entry-primed}
-use Rattle.history_axis.proofs.AngleLaws.{expected, expected-worth, entry-shown, code-at}
+use Rattle.history_axis.proofs.AngleLaws.{expected, expected-double, expected-worth, entry-shown, code-at}
 use Rattle.history_axis.proofs.TallyLaws.{one-clear}
 
 -- ---- angles
@@ -68,12 +68,7 @@ behind-back b c e = eqZ c (b -ℤ pos 1) (omega (arith, bal-sub c b, bal-sub b (
 
 -- It is no double step.
 near-single : (d : ℤ) → natAbs d ≤ 1 → isE (expected d) ≡ false
-unfolding expected isE
-near-single (pos zero) g = refl
-near-single (pos (suc zero)) g = refl
-near-single (pos (suc (suc n))) g = absurd (let z : ⊥ = omega arith in z)
-near-single (negsuc zero) g = refl
-near-single (negsuc (suc n)) g = absurd (let z : ⊥ = omega arith in z)
+near-single d g = expected-double d (omega arith) ∙ ne-eqb (natAbs d) 2 (λ e. let z : ⊥ = omega arith in z)
 
 -- Its entry is + where it is one forward, and - where it is one backward.
 near-ahead : (d : ℤ) → isP (expected d) ≡ true → d ≡ pos 1
@@ -92,9 +87,9 @@ near-astern (pos (suc (suc n))) e = absurd (true≢false (sym e))
 near-astern (negsuc zero) e = refl
 near-astern (negsuc (suc n)) e = absurd (true≢false (sym e))
 
-turned : (b : Bool) → not b ≡ true → b ≡ false
-turned true e = absurd (true≢false (sym e))
-turned false e = refl
+not-true : (b : Bool) → not b ≡ true → b ≡ false
+not-true true e = absurd (true≢false (sym e))
+not-true false e = refl
 
 -- A move over an angle is one.
 over-near : {a b c : ℤ} → Over a b c → Near b c
@@ -219,14 +214,14 @@ module _ (x : Axis) (kind : x .config .kind ≡ X4) (depth : x .config .depth �
         let k = both _ _ (sym forward-is ∙ e) in
         let l = both _ _ (k .1) in
         let q = behind-one b c (near-ahead (c -ℤ b) (k .0)) in
-        record { angle = c; edge = record { before = ap z (sym q) ∙ turned (z b) (l .0); at = l .1 }; over = ahead q refl }
+        record { angle = c; edge = record { before = ap z (sym q) ∙ not-true (z b) (l .0); at = l .1 }; over = ahead q refl }
 
     over-astern : backwardAt x (shown z c) h ≡ true → OverEdge z b c
     over-astern e =
         let k = both _ _ (sym backward-is ∙ e) in
         let l = both _ _ (k .1) in
         let q = behind-back b c (near-astern (c -ℤ b) (k .0)) in
-        record { angle = b; edge = record { before = ap z (sym q) ∙ turned (z c) (l .1); at = l .0 }; over = astern refl q }
+        record { angle = b; edge = record { before = ap z (sym q) ∙ not-true (z c) (l .1); at = l .0 }; over = astern refl q }
 
     -- And such a move is one.
     ahead-met : {a : ℤ} → EdgeAngle z a → b ≡ a -ℤ pos 1 → c ≡ a → forwardAt x (shown z c) h ≡ true
