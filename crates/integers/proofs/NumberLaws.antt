@@ -1,14 +1,14 @@
--- Limits of plain numbers, and how far apart two of them are.
-use mathlib.Core.Path.{_≡_, refl, sym}
+-- Limits of plain numbers, how far apart two of them are, and what a negative and a sum do to a product.
+use mathlib.Core.Path.{_≡_, refl, sym, ap}
 use mathlib.Core.Bool.{true, _&&_, and-eq-true-iff}
 use mathlib.Core.Logic.{_⊎_, inl, inr, ⊎-elim}
-use Prim.Native.Nat.{ℕ, zero, suc, _+_, _*_, _≤_}
+use Prim.Native.Nat.{ℕ, zero, suc, _+_, _*_, _≤_, _<_}
 use native.Mathlib.Omega.{arith}
 use borrow.Author.Tests.{leb-true}
 use lib.Dec.{leb}
-use lib.IntN.{ℤ, pos, negsuc, negℤ, natAbs, _-ℤ_, _*ℤ_, negℤ-negℤ, negℤ-+ℤ}
+use lib.IntN.{ℤ, pos, negsuc, negℤ, natAbs, _+ℤ_, _-ℤ_, _*ℤ_, negℤ-negℤ, *ℤ-negsuc, *ℤ-comm}
 use Rattle.integers.specs.Integer.{plus, minus}
-use Rattle.integers.proofs.Balance.{abs-is, bal-sub, sign}
+use Rattle.integers.proofs.Balance.{abs-is, bal-add, bal-sub, bal-scale, eqZ, sign}
 
 -- A number from a to b.
 pub between : (a b x : ℕ) → (leb a x && leb x b) ≡ true → (a ≤ x) × (x ≤ b)
@@ -38,5 +38,29 @@ scale-neg (pos zero) t = let e : 0 * t ≡ 0 = omega arith in rw e
 scale-neg (pos (suc n)) t = refl
 scale-neg (negsuc n) t = sym (negℤ-negℤ (pos (suc n) *ℤ pos t))
 
-pub far-neg : (v n : ℤ) (t : ℕ) → natAbs ((negℤ v *ℤ pos t) -ℤ negℤ n) ≡ natAbs ((v *ℤ pos t) -ℤ n)
-far-neg v n t = rw (scale-neg v t, ← (negℤ-+ℤ (v *ℤ pos t) (negℤ n))) (abs-neg ((v *ℤ pos t) -ℤ n))
+pub neg-left : (x y : ℤ) → negℤ x *ℤ y ≡ negℤ (x *ℤ y)
+neg-left x (pos t) = scale-neg x t
+neg-left x (negsuc t) = rw (*ℤ-negsuc (negℤ x) t, *ℤ-negsuc x t, scale-neg x (suc t))
+
+pub neg-both : (x y : ℤ) → negℤ x *ℤ negℤ y ≡ x *ℤ y
+neg-both x y = rw (neg-left x (negℤ y), *ℤ-comm x (negℤ y), neg-left y x, *ℤ-comm y x) (negℤ-negℤ (x *ℤ y))
+
+-- ---- sides of zero, and sums
+
+-- A number on one side of 0 is not on the other.
+pub no-plus : (x : ℤ) → 0 < minus x → plus x ≡ 0
+no-plus (pos a) h = absurd (let none : ⊥ = omega arith in none)
+no-plus (negsuc a) h = refl
+
+pub no-minus : (x : ℤ) → 0 < plus x → minus x ≡ 0
+no-minus (pos a) h = refl
+no-minus (negsuc a) h = absurd (let none : ⊥ = omega arith in none)
+
+-- A sum t times over.
+pub scale-add : (x y : ℤ) (t : ℕ) → (x +ℤ y) *ℤ pos t ≡ (x *ℤ pos t) +ℤ (y *ℤ pos t)
+scale-add x y t =
+    let a = bal-scale (x +ℤ y) t in
+    let b = bal-add (x *ℤ pos t) (y *ℤ pos t) in
+    let c = bal-scale x t in
+    let d = bal-scale y t in
+    eqZ _ _ (omega (arith, ap (λ (m : ℕ). m * t) (bal-add x y)))

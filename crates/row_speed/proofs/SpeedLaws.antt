@@ -1,4 +1,4 @@
--- The laws of speed by period: each answer exactly where it is due, and how near a speed is.
+-- The laws of speed by period: each answer exactly where it is due, what it divides and what it leaves.
 use Prim.Native.Nat.{ℕ, zero, suc, _-_, _*_, _^_, _<_, _≤_}
 use native.Mathlib.Omega.{arith}
 use mathlib.Core.Path.{_≡_, refl}
@@ -9,10 +9,12 @@ use lib.IntN.{ℤ, pos, negsuc, natAbs, _-ℤ_, _*ℤ_}
 use borrow.Author.Tests.{eq-eqb, ne-eqb, le-leb}
 use Rattle.integers.proofs.Balance.{Decided, yes, no, test}
 use Rattle.refusal.specs.declared.Refusal.the-variants.{Kind as KIND, Value as VALUE, NoPeriod as NO-PERIOD}
-use Rattle.speed.specs.Rounding.{rounded}
+use Rattle.speed.specs.Rounding.{divided, Divides}
 use Rattle.speed.specs.Speed.{speedRefusal, goodCount, goodSamples, goodRate, goodSpeed, speedByCount}
+use Rattle.speed.specs.declared.Quotient.{Quotient}
 use Rattle.speed.specs.declared.Speed.the-variants.{Of, Refused}
-use Rattle.speed.proofs.SpeedLaws.{unsped-not, speed-near}
+use Rattle.speed.proofs.RoundingLaws.{near}
+use Rattle.speed.proofs.SpeedLaws.{unsped-not, speed-divides as count-divides, speed-divisor as count-divisor}
 use Rattle.axis.specs.Row.{axisOf}
 use Rattle.axis_sound.specs.Sound.{statusOf, SoundPace}
 use Rattle.axis.specs.declared.row.Pace.{Pace}
@@ -61,9 +63,9 @@ module _ (rate : ℕ) (r : Row) (sampled : statusOf r ≡ Sampled) where
   unfolding speedRow speedOf
   speed-still h z = rw (sampled, h, eq-eqb (pace .period) 0 z)
 
-  -- Any other period gives a speed: the direction's sign times 1000 F over the larger of period and age, to the nearest.
+  -- Any other period gives a speed: the direction's sign times 1000 F over the larger of period and age.
   pub speed-moving : goodRate rate ≡ true → 0 < pace .period →
-      speedRow rate r ≡ Of (rounded (signOf (pace .direction) *ℤ pos (1000 * rate)) (spanOf pace))
+      speedRow rate r ≡ Of (divided (signOf (pace .direction) *ℤ pos (1000 * rate)) (spanOf pace))
   unfolding speedRow speedOf speedByCount goodSpeed
   speed-moving h p =
       let some = ne-eqb (pace .period) 0 (λ z. let idle : ⊥ = omega arith in idle) in
@@ -103,23 +105,32 @@ speed-reasons rate r =
 
 -- ---- what it was reckoned from
 
--- What a speed was reckoned from.
-speed-from : (rate : ℕ) (r : Row) (v : ℤ) → speedRow rate r ≡ Of v →
-    (statusOf r ≡ Sampled) × (speedByCount (signOf (axisOf r .pace .direction)) (spanOf (axisOf r .pace)) rate ≡ Of v)
+-- A speed is one by count, of one count over the larger of period and age.
+speed-from : (rate : ℕ) (r : Row) (q : Quotient) → speedRow rate r ≡ Of q →
+    speedByCount (signOf (axisOf r .pace .direction)) (spanOf (axisOf r .pace)) rate ≡ Of q
 unfolding speedRow speedOf
-speed-from rate r v e =
+speed-from rate r q e =
     ⊎-elim
-    (λ h. (h .0, go (test (goodRate rate)) (test (eqb (axisOf r .pace .period) 0)) (h .1)))
-    (λ h. absurd (unsped-not v KIND (h .1)))
-    (live Refused (speedOf rate (axisOf r .pace)) (Refused KIND) (Of v) (unsped-not v) (statusOf r) e)
+    (λ h. go (test (goodRate rate)) (test (eqb (axisOf r .pace .period) 0)) (h .1))
+    (λ h. absurd (unsped-not q KIND (h .1)))
+    (live Refused (speedOf rate (axisOf r .pace)) (Refused KIND) (Of q) (unsped-not q) (statusOf r) e)
   where
-    go : Decided (goodRate rate) → Decided (eqb (axisOf r .pace .period) 0) → speedOf rate (axisOf r .pace) ≡ Of v →
-        speedByCount (signOf (axisOf r .pace .direction)) (spanOf (axisOf r .pace)) rate ≡ Of v
-    go (no g) t h = absurd (unsped-not v VALUE (rw g at h))
-    go (yes g) (yes z) h = absurd (unsped-not v NO-PERIOD (rw (g, z) at h))
+    go : Decided (goodRate rate) → Decided (eqb (axisOf r .pace .period) 0) → speedOf rate (axisOf r .pace) ≡ Of q →
+        speedByCount (signOf (axisOf r .pace .direction)) (spanOf (axisOf r .pace)) rate ≡ Of q
+    go (no g) t h = absurd (unsped-not q VALUE (rw g at h))
+    go (yes g) (yes z) h = absurd (unsped-not q NO-PERIOD (rw (g, z) at h))
     go (yes g) (no z) h = rw (g, z) at h
 
--- With T the larger of period and age, twice |v T - 1000 F| is at most T, F with the direction's sign.
-pub speed-bound : (rate : ℕ) (r : Row) (v : ℤ) → speedRow rate r ≡ Of v →
-    2 * natAbs ((v *ℤ pos (spanOf (axisOf r .pace))) -ℤ (signOf (axisOf r .pace .direction) *ℤ pos (1000 * rate))) ≤ spanOf (axisOf r .pace)
-speed-bound rate r v e = speed-near (signOf (axisOf r .pace .direction)) (spanOf (axisOf r .pace)) rate v (speed-from rate r v e .1)
+module _ (rate : ℕ) (r : Row) (q : Quotient) (e : speedRow rate r ≡ Of q) where
+  -- The divisor T is the larger of period and age, and number times T plus remainder is exactly 1000 F, F with the direction's sign.
+  pub speed-divides : Divides (signOf (axisOf r .pace .direction) *ℤ pos (1000 * rate)) (spanOf (axisOf r .pace)) q
+  speed-divides = count-divides (signOf (axisOf r .pace .direction)) (spanOf (axisOf r .pace)) rate q (speed-from rate r q e)
+
+  -- It is from 1 to 2 ^ 32 - 1.
+  pub speed-divisor : (1 ≤ q .divisor) × (q .divisor ≤ 2 ^ 32 - 1)
+  speed-divisor = count-divisor (signOf (axisOf r .pace .direction)) (spanOf (axisOf r .pace)) rate q (speed-from rate r q e)
+
+  -- Twice |v T - 1000 F| is at most T.
+  pub speed-bound : 2 * natAbs ((q .number *ℤ pos (spanOf (axisOf r .pace)))
+      -ℤ (signOf (axisOf r .pace .direction) *ℤ pos (1000 * rate))) ≤ spanOf (axisOf r .pace)
+  speed-bound = near speed-divides

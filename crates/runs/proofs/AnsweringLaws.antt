@@ -3,17 +3,17 @@ use Prim.Native.Nat.{ℕ, zero, suc, _<_}
 use native.Mathlib.Omega.{arith}
 use mathlib.Core.Path.{_≡_, refl, sym, _∙_}
 use mathlib.Core.Logic.{_⊎_, inl, inr}
-use mathlib.Core.Bool.{true, false, true≢false}
+use mathlib.Core.Bool.{false, true≢false}
 use mathlib.Core.List.{List}
 use borrow.Author.Tests.{leb-true, leb-false, eqb-true, eqb-false}
 use lib.Dec.{eqb, leb}
-use lib.ListN.{length, take, drop}
+use lib.ListN.{length, drop}
 use lib.Seq.{take-at}
 use Rattle.integers.proofs.Balance.{Decided, yes, no, test}
 use Rattle.position.specs.Position.{inRange}
 use Rattle.reckon.proofs.NearestLaws.{verdict}
 use Rattle.speed.specs.Speed.{goodRate}
-use Rattle.speed.proofs.RoundingLaws.{rounds}
+use Rattle.speed.proofs.RoundingLaws.{divides}
 use Rattle.axis.specs.Config.{goodConfig}
 use Rattle.axis.specs.Row.{axisOf}
 use Rattle.axis.specs.declared.row.Row.{Row}
@@ -80,7 +80,7 @@ module _ (r : Row) where
       go (yes g) (yes z) = let e = eqb-true _ _ z in rw (speed-still rate r s g e) (no-period g e)
       go (yes g) (no z) =
           let p = above (axisOf r .pace .period) (eqb-false (axisOf r .pace .period) 0 z) in
-          rw (speed-moving rate r s g p) (sped g p (rounds _ _ (omega arith)))
+          rw (speed-moving rate r s g p) (sped g p (divides _ _ (omega arith)))
 
   size : length (recordOf (savedOf (axisOf r))) ≡ recordSize (axisOf r)
   unfolding recordSize

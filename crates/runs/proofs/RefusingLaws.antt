@@ -3,7 +3,7 @@
 use Prim.Native.Nat.{ℕ, _≤_, _<_}
 use native.Mathlib.Omega.{arith}
 use mathlib.Core.Path.{_≡_, refl, sym, ap, _∙_}
-use mathlib.Core.Logic.{_↔_, _≢_}
+use mathlib.Core.Logic.{_↔_}
 use mathlib.Core.Bool.{true, false, true≢false}
 use mathlib.Core.List.{List}
 use borrow.Author.Tests.{eqb-true, eqb-false, ltb-true, ltb-false}
@@ -25,7 +25,6 @@ use Rattle.axis_sound.specs.declared.Status.the-variants.{Empty, Broken}
 use Rattle.record.specs.Answer.{writtenNumber}
 use Rattle.record.specs.declared.answer.Written.{Written}
 use Rattle.record.specs.declared.answer.Written.the-variants.{Bytes, Refused as Unwritten}
-use Rattle.record.proofs.OrderLaws.{exactly}
 use Rattle.row_calls.specs.Answer.{doneOf, doneNumber}
 use Rattle.row_calls.specs.Calls.{changeRow, setupRow, eraseRow}
 use Rattle.row_calls.specs.Reasons.{StatusReasons}
@@ -43,7 +42,9 @@ use Rattle.row_counter.specs.Reading.{readingRow, storedRow, readRow}
 use Rattle.row_counter.proofs.ReadingLaws.{reading-reasons}
 use Rattle.row_speed.specs.Speed.{speedRow}
 use Rattle.row_speed.proofs.SpeedLaws.{speed-reasons}
-use Rattle.speed.specs.Speed.{speedNumber}
+use Rattle.speed.specs.Speed.{speedRefusal}
+use Rattle.speed.specs.declared.Speed.{Speed}
+use Rattle.speed.specs.declared.Speed.the-variants.{Of, Refused as Unsped}
 use Rattle.row_saving.specs.Saving.{saveRow, savedIn, restoreRow}
 use Rattle.row_saving.proofs.SaveLaws.{save-reasons}
 use Rattle.table_rows.specs.Table.{axesIn, rowAt}
@@ -54,9 +55,9 @@ use Rattle.table_change.specs.Making.{tableAfter}
 use Rattle.table_change.specs.Order.{Ordered}
 use Rattle.table_change.proofs.OrderLaws.{in-order, setup-late, erase-late, preset-late, arm-late, acknowledge-late}
 use Rattle.table.proofs.OrderLaws.{restore-late, view-late, reading-late, speed-late, save-late}
-use Rattle.runs.specs.Told.{refused, toldDone, toldView, toldNumber, toldBytes}
+use Rattle.runs.specs.Told.{refused, toldDone, toldView, toldNumber, toldSpeed, toldBytes}
 use Rattle.runs.specs.Op.{Op, view, speed, save, changes, restore, reading, looks, lookRow, ruleOf, answerOf}
-use Rattle.runs.specs.Run.{names, tableBy, answerIn}
+use Rattle.runs.specs.Run.{tableBy, answerIn}
 use Rattle.runs.specs.Refusing.{refusalTold, takesAny, WrongKind, RefusesExactly}
 use Rattle.runs.proofs.CallLaws.{look-keeps}
 use Rattle.runs.proofs.AnsweringLaws.{answers}
@@ -77,6 +78,11 @@ reckoned-number : (a : Reckoned) → refusalTold (toldNumber a) ≡ refusalIn a
 unfolding refusalTold
 reckoned-number (Number z) = refl
 reckoned-number (Unreckoned e) = refl
+
+speed-number : (a : Speed) → refusalTold (toldSpeed a) ≡ speedRefusal a
+unfolding refusalTold
+speed-number (Of q) = refl
+speed-number (Unsped e) = refl
 
 bytes-number : (a : Written) (b : List ℕ) → refusalTold (toldBytes a b) ≡ writtenNumber a
 unfolding refusalTold
@@ -109,7 +115,7 @@ row-reasons (changes Acknowledge) q r = rw (done-number (doneOf (changeRow Ackno
 row-reasons (restore bytes) q r = absurd (true≢false q)
 row-reasons (reading x) q r = rw (reckoned-number (readingRow x r)) (reading-reasons x r)
 row-reasons (looks view) q r = rw (view-number (viewRow r)) (view-reasons r)
-row-reasons (looks (speed rate)) q r = rw (reckoned-number (speedNumber (speedRow rate r))) (speed-reasons rate r)
+row-reasons (looks (speed rate)) q r = rw (speed-number (speedRow rate r)) (speed-reasons rate r)
 row-reasons (looks (save b)) q r = rw (bytes-number (saveRow (length b) r) (savedIn b r)) (save-reasons (length b) r)
 
 -- No row is of the wrong kind for one that takes any.
@@ -136,7 +142,7 @@ row-late (changes Acknowledge) r = rw (done-number (doneOf (changeRow Acknowledg
 row-late (restore bytes) r = after-sooner checked KIND Axis (lit≤ tt) (any-late (restore bytes) refl r)
 row-late (reading x) r = rw (reckoned-number (readingRow x r)) (reading-late x r)
 row-late (looks view) r = rw (view-number (viewRow r)) (view-late r)
-row-late (looks (speed rate)) r = rw (reckoned-number (speedNumber (speedRow rate r))) (speed-late rate r)
+row-late (looks (speed rate)) r = rw (speed-number (speedRow rate r)) (speed-late rate r)
 row-late (looks (save b)) r = rw (bytes-number (saveRow (length b) r) (savedIn b r)) (save-late (length b) r)
 
 -- ---- on a table

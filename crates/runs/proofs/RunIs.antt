@@ -11,8 +11,7 @@ use Rattle.refusal.specs.declared.Refusal.{Refusal}
 use Rattle.reckon.specs.declared.Reckoned.{Reckoned}
 use Rattle.reckon.specs.declared.Reckoned.the-variants.{Number, Refused as Unreckoned}
 use Rattle.speed.specs.declared.Speed.{Speed}
-use Rattle.speed.specs.declared.Speed.the-variants.{Refused as Unsped}
-use Rattle.speed.proofs.SpeedLaws.{speed-one-number}
+use Rattle.speed.specs.declared.Speed.the-variants.{Of, Refused as Unsped}
 use Rattle.axis.specs.declared.row.Row.{Row}
 use Rattle.record.specs.declared.answer.Written.{Written}
 use Rattle.record.specs.declared.answer.Written.the-variants.{Refused as Unwritten}
@@ -67,6 +66,12 @@ number-only (Number x) (Number y) q = cc
 number-only (Number x) (Unreckoned e) q = absurd (let z : _≡_ {A = ℕ} 0 1 = cc in omega arith)
 number-only (Unreckoned e) (Number x) q = absurd (let z : _≡_ {A = ℕ} 0 1 = cc in omega arith)
 number-only (Unreckoned e) (Unreckoned f) q = cc
+
+speed-only : (a b : Speed) → toldSpeed a ≡ toldSpeed b → a ≡ b
+speed-only (Of p) (Of q) e = cc
+speed-only (Of p) (Unsped d) e = absurd (let z : _≡_ {A = ℕ} 0 1 = cc in omega arith)
+speed-only (Unsped d) (Of q) e = absurd (let z : _≡_ {A = ℕ} 0 1 = cc in omega arith)
+speed-only (Unsped d) (Unsped g) e = cc
 
 -- ---- the eleven calls
 
@@ -142,7 +147,7 @@ module _ {t u : List ℕ} {k : ℕ} where
   speed-run rate {a} =
       let told = tell-found toldSpeed Unsped (speedRow rate) (λ e. refl) (located t k) in (
         (λ w. record { table = w .0 ∙ sym (look-keeps t k (speed rate)); told = ap toldSpeed (w .1) ∙ told }),
-        (λ s. (s .table ∙ look-keeps t k (speed rate), speed-one-number a _ (number-only _ _ (s .told ∙ sym told)))),
+        (λ s. (s .table ∙ look-keeps t k (speed rate), speed-only a _ (s .told ∙ sym told))),
       )
 
 -- A save, which leaves the table: b is what the buffer holds before it, d after it.

@@ -10,8 +10,9 @@ use Rattle.refusal.specs.declared.Refusal.the-variants.{Value, NoPeriod, Room}
 use Rattle.position.specs.Position.{inRange, positionOf}
 use Rattle.reckon.specs.Nearest.{Verdict}
 use Rattle.reckon.specs.declared.Reckoned.{Reckoned}
-use Rattle.speed.specs.Rounding.{Rounds}
+use Rattle.speed.specs.Rounding.{Divides}
 use Rattle.speed.specs.Speed.{goodRate}
+use Rattle.speed.specs.declared.Quotient.{Quotient}
 use Rattle.axis.specs.Kind.{counterKind}
 use Rattle.axis.specs.Config.{goodConfig}
 use Rattle.axis.specs.Row.{axisOf}
@@ -25,7 +26,7 @@ use Rattle.row_calls.specs.declared.apply.Change.the-variants.{Setup, Erase, Pr
 use Rattle.row_view.specs.View.{viewOf}
 use Rattle.row_speed.specs.Speed.{signOf}
 use Rattle.row_saving.specs.Saving.{savedOf}
-use Rattle.runs.specs.Told.{Told, refused, done, shown, number, wrote, toldNumber}
+use Rattle.runs.specs.Told.{Told, refused, done, shown, quotient, wrote, toldNumber}
 use Rattle.runs.specs.Op.{Op, view, speed, save, changes, restore, reading, looks}
 
 -- What a restore tells by what the record's reader says.
@@ -51,9 +52,9 @@ pub data Answers (r : Row) : Op → Told → Type 0 where
   viewed : Answers r (looks view) (shown (viewOf (axisOf r)))
   no-rate : {rate : ℕ} → goodRate rate ≡ false → Answers r (looks (speed rate)) (refused Value)
   no-period : {rate : ℕ} → goodRate rate ≡ true → axisOf r .pace .period ≡ 0 → Answers r (looks (speed rate)) (refused NoPeriod)
-  sped : {rate : ℕ} {v : ℤ} → goodRate rate ≡ true → 0 < axisOf r .pace .period →
-      Rounds (signOf (axisOf r .pace .direction) *ℤ pos (1000 * rate)) (max (axisOf r .pace .period) (axisOf r .pace .age)) v →
-      Answers r (looks (speed rate)) (number v)
+  sped : {rate : ℕ} {q : Quotient} → goodRate rate ≡ true → 0 < axisOf r .pace .period →
+      Divides (signOf (axisOf r .pace .direction) *ℤ pos (1000 * rate)) (max (axisOf r .pace .period) (axisOf r .pace .age)) q →
+      Answers r (looks (speed rate)) (quotient q)
   no-room : {b : List ℕ} → length b < recordSize (axisOf r) → Answers r (looks (save b)) (refused Room)
   saved : {b : List ℕ} → recordSize (axisOf r) ≤ length b →
       Answers r (looks (save b)) (wrote (recordSize (axisOf r)) (recordOf (savedOf (axisOf r))))

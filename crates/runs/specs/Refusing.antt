@@ -11,7 +11,7 @@ use Rattle.axis_sound.specs.declared.Status.{Status}
 use Rattle.axis_sound.specs.declared.Status.the-variants.{Empty, Sampled, Counter, Broken}
 use Rattle.row_calls.specs.declared.apply.Change.the-variants.{Setup, Erase, Preset, Arm, Acknowledge}
 use Rattle.table_rows.specs.Table.{axesIn, rowAt}
-use Rattle.runs.specs.Told.{Told, marks, refused, done, shown, number, wrote}
+use Rattle.runs.specs.Told.{Told, marks, refused, done, shown, number, quotient, wrote}
 use Rattle.runs.specs.Op.{Op, view, speed, save, changes, restore, reading, looks}
 use Rattle.runs.specs.Answering.{Answers}
 
@@ -22,6 +22,7 @@ refusalTold (refused e) = numberOf e
 refusalTold done = 0
 refusalTold (shown v) = 0
 refusalTold (number z) = 0
+refusalTold (quotient q) = 0
 refusalTold (wrote n bytes) = 0
 
 -- Setup, erase and restore take any row, a broken and an empty one too.

@@ -7,8 +7,9 @@ use lib.ListN.{take}
 use Rattle.refusal.specs.declared.Refusal.{Refusal}
 use Rattle.reckon.specs.declared.Reckoned.{Reckoned}
 use Rattle.reckon.specs.declared.Reckoned.the-variants.{Number, Refused as Unreckoned}
-use Rattle.speed.specs.Speed.{speedNumber}
+use Rattle.speed.specs.declared.Quotient.{Quotient}
 use Rattle.speed.specs.declared.Speed.{Speed}
+use Rattle.speed.specs.declared.Speed.the-variants.{Of, Refused as Unsped}
 use Rattle.row_sample.specs.declared.SteppedRow.{SteppedRow}
 use Rattle.record.specs.declared.answer.Written.{Written}
 use Rattle.record.specs.declared.answer.Written.the-variants.{Bytes, Refused as Unwritten}
@@ -35,6 +36,7 @@ pub data Told : Type 0 where
   done : Told
   shown : View → Told
   number : ℤ → Told
+  quotient : Quotient → Told
   wrote : ℕ → List ℕ → Told
 
 -- What the answers of the calls tell; a refusal is told alike by all.
@@ -51,7 +53,8 @@ toldNumber (Number z) = number z
 toldNumber (Unreckoned e) = refused e
 
 abbrev pub toldSpeed : Speed → Told
-toldSpeed s = toldNumber (speedNumber s)
+toldSpeed (Of q) = quotient q
+toldSpeed (Unsped e) = refused e
 
 -- A save tells the bytes that it wrote, of what the buffer holds after it.
 abbrev pub toldBytes : Written → List ℕ → Told

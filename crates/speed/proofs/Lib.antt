@@ -1,3 +1,4 @@
 pub mod RoundingLaws
 pub mod SpeedLaws
+pub mod SumLaws
 pub mod StatedLaws

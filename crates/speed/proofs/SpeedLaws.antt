@@ -1,5 +1,5 @@
--- How near a speed is to what it stands for.
-use mathlib.Core.Path.{_≡_, sym, ap}
+-- What a speed by count answers, that nothing else would do, and how near it is to what it stands for.
+use mathlib.Core.Path.{_≡_, sym, ap, subst}
 use mathlib.Core.Bool.{true, _&&_, and-eq-true-iff}
 use mathlib.Core.Logic.{⊎-elim}
 use Prim.Native.Nat.{ℕ, suc, _+_, _*_, _-_, _^_, _≤_, _<_}
@@ -12,25 +12,27 @@ use Rattle.integers.proofs.Balance.{Decided, yes, no, test, abs-is, bal-sub, ba
 use Rattle.integers.proofs.NumberLaws.{between, far-cases, far-sub}
 use Rattle.refusal.specs.declared.Refusal.{Refusal}
 use Rattle.refusal.specs.declared.Refusal.the-variants.{Value}
-use Rattle.reckon.proofs.ReckonedLaws.{refused-not}
+use Rattle.refusal.proofs.RefusalLaws.{told-apart, above-zero}
+use Rattle.speed.specs.declared.Quotient.{Quotient}
 use Rattle.speed.specs.declared.Speed.{Speed}
 use Rattle.speed.specs.declared.Speed.the-variants.{Of, Refused}
-use Rattle.speed.specs.Rounding.{rounded}
-use Rattle.speed.specs.Speed.{speedNumber, goodCount, goodSamples, goodRate, goodSpeed, speedByCount, countedFrom, angleBound}
-use Rattle.speed.proofs.RoundingLaws.{rounds}
+use Rattle.speed.specs.Rounding.{divided, Divides}
+use Rattle.speed.specs.Speed.{speedRefusal, speedFound, quotientIn, goodCount, goodSamples, goodRate, goodSpeed, speedByCount}
+use Rattle.speed.specs.Speed.{countedFrom, angleBound}
+use Rattle.speed.proofs.RoundingLaws.{divides, divides-only, near}
 
--- ---- a speed and its number
+-- ---- a speed by its numbers
 
 -- What is refused is no speed.
-pub unsped-not : (v : ℤ) (e : Refusal) → Refused e ≡ Of v → ⊥
-unsped-not v e h = refused-not v e (ap speedNumber h)
+pub unsped-not : (q : Quotient) (e : Refusal) → Refused e ≡ Of q → ⊥
+unsped-not q e h = let z : _≡_ {A = ℕ} 0 1 = cc in omega arith
 
--- Two speeds with one number, or one refusal, are one speed.
-pub speed-one-number : (a b : Speed) → speedNumber a ≡ speedNumber b → a ≡ b
-speed-one-number (Of v) (Of u) e = cc
-speed-one-number (Of v) (Refused d) e = absurd (refused-not v d (sym e))
-speed-one-number (Refused d) (Of u) e = absurd (refused-not u d e)
-speed-one-number (Refused d) (Refused g) e = cc
+-- Two speeds with one refusal number, one found number and one quotient are one speed.
+pub speed-told : (a b : Speed) → speedRefusal a ≡ speedRefusal b → speedFound a ≡ speedFound b → quotientIn a ≡ quotientIn b → a ≡ b
+speed-told (Of p) (Of q) n f e = ap Of e
+speed-told (Of p) (Refused d) n f e = absurd (above-zero d (sym n))
+speed-told (Refused d) (Of q) n f e = absurd (above-zero d n)
+speed-told (Refused d) (Refused g) n f e = ap Refused (told-apart d g n f)
 
 -- ---- the limits, and the size of 1000 D F
 
@@ -83,19 +85,20 @@ one-way : (pv nv pd nd T k f a b rα rβ pΔ nΔ : ℕ)
 one-way pv nv pd nd T k f a b rα rβ pΔ nΔ near c d h =
     omega (arith, mul-le-mul-right (suc k) near, ap (λ (m : ℕ). m * f) c, ap (λ (m : ℕ). m * f) d, mul-le-mul-right f h)
 
-floors : (α β : ℤ) (s T F : ℕ) → 0 < s → 0 < T →
-    2 * natAbs (((rounded (countedFrom α β s *ℤ pos (1000 * F)) T *ℤ pos T) *ℤ pos s) -ℤ ((β -ℤ α) *ℤ pos (1000 * F))) ≤ angleBound s T F
+-- What divides 1000 F times a difference of floors lies no farther than that from what the angles give.
+pub divides-shaft : (α β : ℤ) (s T F : ℕ) {q : Quotient} → 0 < s → Divides (countedFrom α β s *ℤ pos (1000 * F)) T q →
+    2 * natAbs (((q .number *ℤ pos T) *ℤ pos s) -ℤ ((β -ℤ α) *ℤ pos (1000 * F))) ≤ angleBound s T F
 unfolding angleBound
-floors α β (suc k) T F hs hT =
+divides-shaft α β (suc k) T F {q} hs h =
     let f = 1000 * F in
     let D = countedFrom α β (suc k) in
-    let X = rounded (D *ℤ pos f) T *ℤ pos T in
+    let X = q .number *ℤ pos T in
     let Δ = β -ℤ α in
     let a = plus α + minus β in
     let b = plus β + minus α in
     let c = counted-is α β (suc k) hs in
     let n = far-sub X (D *ℤ pos f) in
-    let l = rounds (D *ℤ pos f) T hT .near in
+    let l = near h in
     let e = bal-scale D f in
     let up = one-way (plus X) (minus X) (plus D) (minus D) T k f a b (modZ α (suc k)) (modZ β (suc k)) (plus Δ) (minus Δ)
     (omega arith) c (omega (arith, bal-sub β α)) (omega (arith, modZ-lt α hs)) in
@@ -106,26 +109,38 @@ floors α β (suc k) T F hs hT =
     let o : 2000 * F * (suc k - 1) ≡ 2000 * F * k = ap (λ (m : ℕ). 2000 * F * m) (omega arith) in
     ⊎-elim (λ q. omega (arith, q)) (λ q. omega (arith, q)) (far-cases (X *ℤ pos (suc k)) (Δ *ℤ pos f))
 
--- a speed is given only where every argument is within its limits, and is the rounded quotient
-module _ (D : ℤ) (T F : ℕ) (v : ℤ) (h : speedByCount D T F ≡ Of v) where
-  pub speed-given : (goodSpeed D T F ≡ true) × (v ≡ rounded (D *ℤ pos (1000 * F)) T)
+-- a speed is given only where every argument is within its limits, and is the quotient
+module _ (D : ℤ) (T F : ℕ) (q : Quotient) (h : speedByCount D T F ≡ Of q) where
+  pub speed-given : (goodSpeed D T F ≡ true) × (q ≡ divided (D *ℤ pos (1000 * F)) T)
   unfolding speedByCount
   speed-given = go (test (goodSpeed D T F))
     where
-      go : Decided (goodSpeed D T F) → (goodSpeed D T F ≡ true) × (v ≡ rounded (D *ℤ pos (1000 * F)) T)
-      go (no e) = absurd (unsped-not v Value (rw e at h))
+      go : Decided (goodSpeed D T F) → (goodSpeed D T F ≡ true) × (q ≡ divided (D *ℤ pos (1000 * F)) T)
+      go (no e) = absurd (unsped-not q Value (rw e at h))
       go (yes e) = (e, cc (rw e at h))
 
-  pub some-samples : 0 < T
-  some-samples = omega (arith, limits D T F (speed-given .0) .samples)
+  -- Number times T plus remainder is exactly 1000 D F, and the remainder is at most half of T in size.
+  pub speed-divides : Divides (D *ℤ pos (1000 * F)) T q
+  speed-divides =
+      let some : 0 < T = omega (arith, limits D T F (speed-given .0) .samples) in
+      subst (Divides (D *ℤ pos (1000 * F)) T) (sym (speed-given .1)) (divides (D *ℤ pos (1000 * F)) T some)
+
+  -- So its divisor is from 1 to 2 ^ 32 - 1.
+  pub speed-divisor : (1 ≤ q .divisor) × (q .divisor ≤ 2 ^ 32 - 1)
+  speed-divisor = rw (speed-divides .over) (limits D T F (speed-given .0) .samples)
 
   -- The first bound: twice |v T - 1000 D F| is at most T.
-  pub speed-near : 2 * natAbs ((v *ℤ pos T) -ℤ (D *ℤ pos (1000 * F))) ≤ T
-  speed-near = rw (speed-given .1) (rounds (D *ℤ pos (1000 * F)) T some-samples .near)
+  pub speed-near : 2 * natAbs ((q .number *ℤ pos T) -ℤ (D *ℤ pos (1000 * F))) ≤ T
+  speed-near = near speed-divides
+
+-- Within the limits no other number and remainder than those that divide are answered.
+pub speed-only : (D : ℤ) (T F : ℕ) → goodSpeed D T F ≡ true → (q : Quotient) → Divides (D *ℤ pos (1000 * F)) T q →
+    speedByCount D T F ≡ Of q
+unfolding speedByCount
+speed-only D T F good q h = rw good (ap Of (sym (divides-only (D *ℤ pos (1000 * F)) T q h)))
 
 -- The second bound: where D is the difference of two counts that are floors of shaft angles in s-ths of a count, twice
 -- |v T s - 1000 F (angle difference)| is at most 2000 F (s - 1) + T s.
-pub speed-of-shaft : (α β : ℤ) (s T F : ℕ) (v : ℤ) → 0 < s → speedByCount (countedFrom α β s) T F ≡ Of v →
-    2 * natAbs (((v *ℤ pos T) *ℤ pos s) -ℤ ((β -ℤ α) *ℤ pos (1000 * F))) ≤ angleBound s T F
-speed-of-shaft α β s T F v some h =
-    rw (speed-given (countedFrom α β s) T F v h .1) (floors α β s T F some (some-samples (countedFrom α β s) T F v h))
+pub speed-of-shaft : (α β : ℤ) (s T F : ℕ) (q : Quotient) → 0 < s → speedByCount (countedFrom α β s) T F ≡ Of q →
+    2 * natAbs (((q .number *ℤ pos T) *ℤ pos s) -ℤ ((β -ℤ α) *ℤ pos (1000 * F))) ≤ angleBound s T F
+speed-of-shaft α β s T F q some h = divides-shaft α β s T F some (speed-divides (countedFrom α β s) T F q h)

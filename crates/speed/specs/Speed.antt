@@ -4,22 +4,31 @@ use Prim.Native.Nat.{ℕ, _+_, _*_, _-_, _^_}
 use lib.Dec.{ltb, leb}
 use lib.IntN.{ℤ, pos, natAbs, _*ℤ_, _-ℤ_}
 use Rattle.integers.specs.Integer.{floorZ}
+use Rattle.refusal.specs.Refusal.{numberOf, foundIn}
 use Rattle.refusal.specs.declared.Refusal.the-variants.{Value}
-use Rattle.reckon.specs.Reckoned.{refusalIn}
-use Rattle.reckon.specs.declared.Reckoned.{Reckoned}
-use Rattle.reckon.specs.declared.Reckoned.the-variants.{Number, Refused as Unreckoned}
-use Rattle.speed.specs.Rounding.{rounded}
+use Rattle.speed.specs.Rounding.{divided}
+use Rattle.speed.specs.declared.Quotient.{Quotient}
 use Rattle.speed.specs.declared.Speed.{Speed}
 use Rattle.speed.specs.declared.Speed.the-variants.{Of, Refused}
 
--- A speed's number, as a calculation answers it.
-abbrev pub speedNumber : Speed → Reckoned
-speedNumber (Of v) = Number v
-speedNumber (Refused e) = Unreckoned e
-
 -- The number of a speed's refusal, 0 where there is none.
 abbrev pub speedRefusal : Speed → ℕ
-speedRefusal s = refusalIn (speedNumber s)
+speedRefusal (Of q) = 0
+speedRefusal (Refused e) = numberOf e
+
+-- The layout number that the refusal carries, 0 where it carries none.
+abbrev pub speedFound : Speed → ℕ
+speedFound (Of q) = 0
+speedFound (Refused e) = foundIn e
+
+-- The quotient of a refusal: every value is 0.
+abbrev pub noQuotient : Quotient
+noQuotient = record { number = pos 0; remainder = pos 0; divisor = 0 }
+
+-- Number, remainder and divisor of a speed, all 0 on a refusal.
+abbrev pub quotientIn : Speed → Quotient
+quotientIn (Of q) = q
+quotientIn (Refused e) = noQuotient
 
 -- A count difference is at most 2 ^ 31 - 1 in size.
 unfoldable pub goodCount : ℤ → Bool
@@ -37,9 +46,9 @@ goodRate F = leb 1 F && leb F 1000000
 unfoldable pub goodSpeed : ℤ → ℕ → ℕ → Bool
 goodSpeed D T F = goodCount D && goodSamples T && goodRate F
 
--- The speed of the count difference D over T samples at rate F, in thousandths of a count a second.
+-- The speed of the count difference D over T samples at rate F: 1000 D F over T, in thousandths of a count a second.
 unfoldable pub speedByCount : ℤ → ℕ → ℕ → Speed
-speedByCount D T F = cond (goodSpeed D T F) (Of (rounded (D *ℤ pos (1000 * F)) T)) (Refused Value)
+speedByCount D T F = cond (goodSpeed D T F) (Of (divided (D *ℤ pos (1000 * F)) T)) (Refused Value)
 
 -- The difference of two counts that are floors of shaft angles in s-ths of a count.
 abbrev pub countedFrom : ℤ → ℤ → ℕ → ℤ

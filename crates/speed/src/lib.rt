@@ -1,14 +1,21 @@
-// Division to the nearest whole number, and speed by count, on plain numbers, with no table.
+// Division to the nearest whole number with what it leaves, and speed by count, on plain numbers, with no table.
 ghost use mathlib.Core.Path.{_≡_};
 ghost use Prim.Native.Nat.{_<_, _^_};
 ghost use lib.IntN.{natAbs};
-ghost use Rattle.speed.specs.Rounding.{awayFrom, rounded};
+ghost use Rattle.speed.specs.Rounding.{awayFrom, rounded, divided};
 ghost use Rattle.speed.specs.Speed.{goodCount, goodSamples, goodRate, speedByCount};
 use refusal::Refusal;
 
-// What a speed answers: thousandths of a count a second, or the reason for saying no.
+// A number to the nearest, what it leaves, and what was divided by: number times divisor plus remainder is exact.
+pub struct Quotient {
+    pub number: i64,
+    pub remainder: i64,
+    pub divisor: u64,
+}
+
+// What a speed answers: thousandths of a count a second with what they leave, or the reason for saying no.
 pub enum Speed {
-    Of(i64),
+    Of(Quotient),
     Refused(Refusal),
 }
 
@@ -54,6 +61,21 @@ fn to_nearest(n: i64, divisor: u64) -> i64
     (2 * n + away(n, divisor)) / (2 * t)
 }
 
+// n over the divisor, to the nearest whole number, with what that leaves of n.
+fn divide(n: i64, divisor: u64) -> Quotient
+    requires { ⌜ (natAbs n < 2 ^ 61) × (0 < divisor) × (divisor < 2 ^ 32) ⌝ }
+    ensures { λ q. ⌜ q ≡ divided n divisor ⌝ }
+{
+    let number = to_nearest(n, divisor);
+    let t = divisor as i64;
+    let remainder = n - number * t;
+    Quotient {
+        number: number,
+        remainder: remainder,
+        divisor: divisor,
+    }
+}
+
 // The speed of a count difference over a number of samples, in thousandths of a count a second.
 pub fn by_count(difference: i64, samples: u64, rate: u64) -> Speed
     ensures { λ r. ⌜ r ≡ speedByCount difference samples rate ⌝ }
@@ -62,5 +84,5 @@ pub fn by_count(difference: i64, samples: u64, rate: u64) -> Speed
         return Speed::Refused(Refusal::Value);
     }
     let f = (1000 * rate) as i64;
-    Speed::Of(to_nearest(difference * f, samples))
+    Speed::Of(divide(difference * f, samples))
 }

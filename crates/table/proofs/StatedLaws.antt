@@ -11,9 +11,10 @@ use Rattle.refusal.specs.declared.Refusal.the-variants.{Axis, Room}
 use Rattle.reckon.specs.Widening.{goodReading, orRange, nearestTo, widened}
 use Rattle.reckon.specs.declared.Reckoned.{Reckoned}
 use Rattle.reckon.specs.declared.Reckoned.the-variants.{Number}
-use Rattle.speed.specs.Rounding.{rounded}
+use Rattle.speed.specs.Rounding.{rounded, divided}
 use Rattle.speed.specs.Speed.{goodCount, goodSpeed, speedByCount}
 use Rattle.speed.specs.declared.Speed.the-variants.{Of}
+use Rattle.speed.proofs.StatedLaws.{parts}
 use Rattle.tagged.specs.Bytes.{bytesOf}
 use Rattle.tagged.specs.Field.{fieldBytes}
 use Rattle.axis.specs.Config.{goodConfig}
@@ -37,9 +38,9 @@ use Rattle.table_rows.specs.Located.{located}
 use Rattle.table_change.specs.Making.{tableAfter}
 use Rattle.table.specs.Call.{viewedIn, speedIn, ReadingMakes, SaveMakes}
 
--- A counter of 8 bits at 250, and after it an x4 axis of depth 3 with 4096 counts a turn at -2, primed, forward, with a period of 5.
+-- A counter of 8 bits at 250, and after it an x4 axis of depth 3 with 4096 counts a turn at -2, primed, forward, with a period of 7.
 abbrev two : List ℕ
-two = (2 ^ 62 + 250) ∷ 2056 ∷ 0 ∷ 0 ∷ (2 ^ 62 - 2) ∷ (52 + PRIMED + 1 * 2 ^ 48) ∷ 5 * 2 ^ 32 ∷ 4096 ∷ []
+two = (2 ^ 62 + 250) ∷ 2056 ∷ 0 ∷ 0 ∷ (2 ^ 62 - 2) ∷ (52 + PRIMED + 1 * 2 ^ 48) ∷ 7 * 2 ^ 32 ∷ 4096 ∷ []
 
 -- A view shows the axis that it names, and AXIS where there is none.
 pub view-stated : AsStated (
@@ -59,14 +60,14 @@ unfolding positionOf mostAxes statusOf viewRow axesIn rowAt located
 view-stated = refl
 
 -- Speed by period is that of the axis that is named, at the rate.
-pub speed-stated : speedIn 1000 two 1 ≡ Of (pos 200000)
-unfolding rounded goodCount goodSpeed speedByCount mostAxes statusOf speedOf speedRow axesIn rowAt located
+pub speed-stated : speedIn 1000 two 1 ≡ Of (parts (pos 142857) (pos 1) 7)
+unfolding rounded divided goodCount goodSpeed speedByCount mostAxes statusOf speedOf speedRow axesIn rowAt located
 speed-stated = refl
 
 -- A reading answers the position and stores it in the first word of the named row, and leaves the seven others.
 pub reading-stated : {u : List ℕ} {a : Reckoned} → ReadingMakes 3 two 0 u a →
     (a ≡ Number (pos 259))
-    × (u ≡ (2 ^ 62 + 259) ∷ 2056 ∷ 0 ∷ 0 ∷ (2 ^ 62 - 2) ∷ (52 + PRIMED + 1 * 2 ^ 48) ∷ 5 * 2 ^ 32 ∷ 4096 ∷ [])
+    × (u ≡ (2 ^ 62 + 259) ∷ 2056 ∷ 0 ∷ 0 ∷ (2 ^ 62 - 2) ∷ (52 + PRIMED + 1 * 2 ^ 48) ∷ 7 * 2 ^ 32 ∷ 4096 ∷ [])
 unfolding modZ inRange wordOf positionOf goodReading orRange nearestTo widened mostAxes statusOf changed readingRow storedRow readRow
     axesIn rowAt setRow located tableAfter
 reading-stated w = (w .answer, w .table)

@@ -9,7 +9,7 @@ use mir.Syntax.{w64}
 use mir.Val.{toZ, ofZ, SFits}
 use mir.Facts.{toZ-pos}
 use Rattle.integers.proofs.Balance.{abs-is}
-use Rattle.integers.proofs.Machine.{back, back-ok, fits-size}
+use Rattle.integers.proofs.Machine.{back, fits-size}
 use Rattle.speed.specs.Speed.{goodSpeed, speedByCount}
 use Rattle.speed.specs.declared.Speed.the-variants.{Of}
 use Rattle.speed.proofs.SpeedLaws.{Limits, limits, product-small}
@@ -60,11 +60,11 @@ mul-f c = record { fits = omega (arith, known c .rate) }
 cast-f : tie.Need-cast-f
 cast-f c = record { sfits = omega (arith, known c .rate) }
 
-mul-to-nearest : tie.Need-mul-to-nearest
-mul-to-nearest c = rw (read c, read-f c) (fits c)
+mul-divide : tie.Need-mul-divide
+mul-divide c = rw (read c, read-f c) (fits c)
 
-to-nearest-requires : tie.Need-to-nearest-requires
-to-nearest-requires c κs =
+divide-requires : tie.Need-divide-requires
+divide-requires c κs =
     let n = known c in
     rw (read c, read-f c, back (fits c)) (small c, omega arith, omega arith)
 
@@ -72,11 +72,11 @@ returns-2 : tie.Need-returns-2
 unfolding speedByCount
 returns-2 c =
     let k = c .before in
-    rw (good k) (ap Of (back-ok (c .to-nearest .ok) ∙ (rw (read k, read-f k, back (fits k)) at (c .to-nearest .ensures))))
+    rw (good k) (ap Of (rw (read k, read-f k, back (fits k)) at (c .divide .ensures)))
 
 pub by-count-spec : {M : Type 1} → statement M
 by-count-spec =
     tie.close
     (tie.spec
-    (λ c κs. tt) (λ c κs. tt) (λ c κs. tt) returns mul-f cast-f mul-to-nearest
-    to-nearest-requires returns-2)
+    (λ c κs. tt) (λ c κs. tt) (λ c κs. tt) returns mul-f cast-f mul-divide
+    divide-requires returns-2)
