@@ -6,9 +6,8 @@ use lib.IntN.{natAbs}
 use Rattle.fields.specs.Field.{bitOf}
 use Rattle.reckon.specs.declared.Reckoned.{Reckoned}
 use Rattle.reckon.proofs.ReckonedLaws.{reckoned-apart}
-use Rattle.speed.specs.Speed.{speedNumber}
 use Rattle.speed.specs.declared.Speed.{Speed}
-use Rattle.speed.proofs.SpeedLaws.{speed-one-number}
+use Rattle.speed.proofs.SpeedLaws.{speed-told}
 use Rattle.record.specs.declared.answer.Tested.{Tested}
 use Rattle.record.specs.declared.answer.Written.{Written}
 use Rattle.record.proofs.AnswerLaws.{test-told, save-told}
@@ -19,6 +18,7 @@ use Rattle.row_calls.proofs.AnswerLaws.{done-told}
 use Rattle.row_view.proofs.ViewLaws.{view-told}
 use Rattle.host_answers.specs.declared.answer.Answer.{Answer}
 use Rattle.host_answers.specs.Answer.{answerTo, answerSpeed, answerTest, answerDone, answerWritten, answerView}
+use Rattle.host_answers.specs.declared.speeds.SpeedAnswer.{SpeedAnswer}
 use Rattle.host_answers.specs.declared.view.ViewAnswer.{ViewAnswer}
 
 bit-apart : (a b : Bool) → bitOf a ≡ bitOf b → a ≡ b
@@ -35,7 +35,10 @@ answer-apart a b e =
 
 -- So had two speeds.
 pub speed-apart : (a b : Speed) → answerSpeed a ≡ answerSpeed b → a ≡ b
-speed-apart a b e = speed-one-number a b (answer-apart (speedNumber a) (speedNumber b) e)
+unfolding answerSpeed
+speed-apart a b e =
+    speed-told a b (ap (λ (x : SpeedAnswer). x .refusal) e) (ap (λ (x : SpeedAnswer). x .found) e)
+    (λ i. record { number = e i .number; remainder = e i .remainder; divisor = e i .divisor })
 
 -- So had two record tests.
 pub test-apart : (a b : Tested) → answerTest a ≡ answerTest b → a ≡ b

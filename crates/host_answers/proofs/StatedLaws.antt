@@ -15,6 +15,7 @@ use Rattle.row_view.specs.declared.answer.Viewed.{Viewed}
 use Rattle.row_view.specs.declared.answer.Viewed.the-variants.{Shows, Refused as Unseen}
 use Rattle.host_answers.specs.Answer.{answerValue, answerRefused, answerTo, answerSpeed, answerTest, answerDone, answerWritten}
 use Rattle.host_answers.specs.Answer.{answerView}
+use Rattle.host_answers.specs.declared.speeds.SpeedAnswer.{SpeedAnswer}
 use Rattle.host_answers.specs.declared.answer.Answer.{Answer}
 use Rattle.host_answers.specs.declared.view.ViewAnswer.{ViewAnswer}
 
@@ -22,17 +23,14 @@ use Rattle.host_answers.specs.declared.view.ViewAnswer.{ViewAnswer}
 abbrev answer : ℕ → ℕ → ℤ → Answer
 answer refusal found value = record { refusal = refusal; found = found; value = value }
 
--- A refusal shows its number, and LAYOUT the number found; what is done shows 0 and its value, the number reckoned, the speed or the number
--- of bytes, and 0 where it has none.
+-- A refusal shows its number, and LAYOUT the number found; what is done shows 0 and its value, the number reckoned or the number of
+-- bytes, and 0 where it has none.
 pub answers-stated : AsStated (
     (answerValue (negsuc 4) is answer 0 0 (negsuc 4))
     ∷ (answerRefused (Layout 7) is answer 11 7 (pos 0))
     ∷ (answerTo (Number (negsuc 4)) is answer 0 0 (negsuc 4))
     ∷ (answerTo (Unreckoned Half) is answer 7 0 (pos 0))
     ∷ (answerTo (Unreckoned (Layout 9)) is answer 11 9 (pos 0))
-    ∷ (answerSpeed (Of (pos 333)) is answer 0 0 (pos 333))
-    ∷ (answerSpeed (Unsped NoPeriod) is answer 9 0 (pos 0))
-    ∷ (answerSpeed (Unsped (Layout 9)) is answer 11 9 (pos 0))
     ∷ (answerTest Accepted is answer 0 0 (pos 0))
     ∷ (answerTest (Failed Record) is answer 12 0 (pos 0))
     ∷ (answerTest (Failed (Layout 9)) is answer 11 9 (pos 0))
@@ -45,6 +43,21 @@ pub answers-stated : AsStated (
     ∷ [])
 unfolding answerTo answerTest answerDone answerWritten
 answers-stated = refl
+
+-- What a speed shows to C: refusal, found, number, remainder and divisor.
+abbrev sped : ℕ → ℕ → ℤ → ℤ → ℕ → SpeedAnswer
+sped refusal found number remainder divisor =
+    record { refusal = refusal; found = found; number = number; remainder = remainder; divisor = divisor }
+
+-- Number, remainder and divisor each in its own place, and 0 in all three on a refusal.
+pub speed-stated : AsStated (
+    (answerSpeed (Of (record { number = negsuc 332; remainder = pos 1; divisor = 3 })) is sped 0 0 (negsuc 332) (pos 1) 3)
+    ∷ (answerSpeed (Of (record { number = pos 7; remainder = negsuc 4; divisor = 4294967295 })) is sped 0 0 (pos 7) (negsuc 4) 4294967295)
+    ∷ (answerSpeed (Unsped NoPeriod) is sped 9 0 (pos 0) (pos 0) 0)
+    ∷ (answerSpeed (Unsped (Layout 9)) is sped 11 9 (pos 0) (pos 0) 0)
+    ∷ [])
+unfolding answerSpeed
+speed-stated = refl
 
 -- A view of kind 2 at position -5 with 300 doubles and these flags.
 abbrev seen : Bool → Bool → Bool → Bool → Bool → Viewed

@@ -5,7 +5,7 @@ use Rattle.refusal.specs.declared.Refusal.{Refusal}
 use Rattle.fields.specs.Field.{bitOf}
 use Rattle.reckon.specs.Reckoned.{refusalIn, foundBy, valueIn}
 use Rattle.reckon.specs.declared.Reckoned.{Reckoned}
-use Rattle.speed.specs.Speed.{speedNumber}
+use Rattle.speed.specs.Speed.{speedRefusal, speedFound, quotientIn}
 use Rattle.speed.specs.declared.Speed.{Speed}
 use Rattle.record.specs.Answer.{testedNumber, testedFound, writtenNumber, writtenFound, writtenBytes}
 use Rattle.record.specs.declared.answer.Tested.{Tested}
@@ -15,6 +15,7 @@ use Rattle.row_view.specs.View.{viewNumber, viewFound, viewValue}
 use Rattle.row_calls.specs.declared.answer.Done.{Done}
 use Rattle.row_view.specs.declared.answer.Viewed.{Viewed}
 use Rattle.host_answers.specs.declared.answer.Answer.{Answer}
+use Rattle.host_answers.specs.declared.speeds.SpeedAnswer.{SpeedAnswer}
 use Rattle.host_answers.specs.declared.view.ViewAnswer.{ViewAnswer}
 
 -- The value of a call that was done.
@@ -29,9 +30,15 @@ answerRefused e = record { refusal = numberOf e; found = foundIn e; value = pos 
 unfoldable pub answerTo : Reckoned → Answer
 answerTo a = record { refusal = refusalIn a; found = foundBy a; value = valueIn a }
 
--- What a speed answers: as a calculation of its number does.
-abbrev pub answerSpeed : Speed → Answer
-answerSpeed s = answerTo (speedNumber s)
+-- The number and found number of a speed's answer, and its number, remainder and divisor.
+unfoldable pub answerSpeed : Speed → SpeedAnswer
+answerSpeed a = record {
+  refusal = speedRefusal a;
+  found = speedFound a;
+  number = quotientIn a .number;
+  remainder = quotientIn a .remainder;
+  divisor = quotientIn a .divisor;
+}
 
 -- The number and found number of a record test's answer, which has no value.
 unfoldable pub answerTest : Tested → Answer

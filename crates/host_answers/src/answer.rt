@@ -2,14 +2,13 @@
 ghost use mathlib.Core.Path.{_≡_};
 ghost use Prim.Native.Nat.{_≤_};
 ghost use Rattle.record.specs.Answer.{writtenBytes};
-ghost use Rattle.host_answers.specs.Answer.{answerValue, answerRefused, answerTo, answerSpeed};
+ghost use Rattle.host_answers.specs.Answer.{answerValue, answerRefused, answerTo};
 ghost use Rattle.host_answers.specs.Answer.{answerTest, answerDone, answerWritten};
 use reckon::Reckoned;
 use record::answer::Tested;
 use record::answer::Written;
 use refusal::Refusal;
 use row_calls::answer::Done;
-use speed::Speed;
 
 // The refusal's number, 0 for done; the layout number that LAYOUT found, else 0; and the value, 0 on a refusal.
 #[repr(C)]
@@ -48,16 +47,6 @@ pub fn of_reckoned(r: Reckoned) -> Answer
     match r {
         Reckoned::Number(v) => of_value(v),
         Reckoned::Refused(e) => of_refusal(e),
-    }
-}
-
-// The answer of a speed.
-pub fn of_speed(s: Speed) -> Answer
-    ensures { λ a. ⌜ a ≡ answerSpeed s ⌝ }
-{
-    match s {
-        Speed::Of(v) => of_value(v),
-        Speed::Refused(e) => of_refusal(e),
     }
 }
 

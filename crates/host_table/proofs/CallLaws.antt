@@ -9,6 +9,7 @@ use Rattle.host_answers.specs.Answer.{answerSpeed, answerView}
 use Rattle.table.proofs.OutcomeLaws.{reading-one as read-one, save-one as saved-one}
 use Rattle.host_table.specs.Call.{ReadsToC, SavesToC}
 use Rattle.host_answers.proofs.ShownLaws.{one-shown}
+use Rattle.host_answers.specs.declared.speeds.SpeedAnswer.{SpeedAnswer}
 use Rattle.host_answers.specs.declared.view.ViewAnswer.{ViewAnswer}
 
 -- ubrenchip_reading
@@ -26,6 +27,6 @@ pub look-one : (t : List ℕ) (k : ℕ) (a b : ViewAnswer) → a ≡ answerView 
 look-one t k a b p q = one p q
 
 -- ubrenchip_speed_by_period
-pub speed-one : (rate : ℕ) (t : List ℕ) (k : ℕ) (a b : Answer) → a ≡ answerSpeed (speedIn rate t k) →
+pub speed-one : (rate : ℕ) (t : List ℕ) (k : ℕ) (a b : SpeedAnswer) → a ≡ answerSpeed (speedIn rate t k) →
     b ≡ answerSpeed (speedIn rate t k) → a ≡ b
 speed-one rate t k a b p q = one p q

@@ -2,8 +2,8 @@
 ghost use mathlib.Core.Path.{_≡_};
 ghost use Rattle.table.specs.Call.{viewedIn, speedIn};
 ghost use Rattle.host_answers.specs.Answer.{answerSpeed, answerView};
-use host_answers::answer::Answer;
-use host_answers::answer::of_speed;
+use host_answers::speeds::SpeedAnswer;
+use host_answers::speeds::of_speed;
 use host_answers::view::ViewAnswer;
 use host_answers::view::of_viewed;
 
@@ -17,7 +17,7 @@ pub extern "C" fn ubrenchip_view(table: &[u64], axis: u64) -> ViewAnswer
 
 // Speed by period, at a rate in samples a second: LENGTH, AXIS, BROKEN, EMPTY, KIND, VALUE, NO PERIOD.
 #[no_mangle]
-pub extern "C" fn ubrenchip_speed_by_period(table: &[u64], axis: u64, rate: u64) -> Answer
+pub extern "C" fn ubrenchip_speed_by_period(table: &[u64], axis: u64, rate: u64) -> SpeedAnswer
     ensures { λ r. ⌜ r ≡ answerSpeed (speedIn rate (now (table .entry)) axis) ⌝ }
 {
     of_speed(table::look::speed(table, axis, rate))

@@ -45,10 +45,16 @@ pub fn reckoned(label: &[u8], answer: Reckoned) -> bool {
     text(label) && reckoned_value(answer) && end()
 }
 
-// A speed, or the reason.
+// A speed with its remainder, or the reason.
 fn speed_value(answer: Speed) -> bool {
     match answer {
-        Speed::Of(n) => number(n),
+        Speed::Of(q) => {
+            number(q.number)
+                && text(b" remainder ")
+                && number(q.remainder)
+                && text(b" over")
+                && word(q.divisor)
+        }
         Speed::Refused(e) => reason(e),
     }
 }
