@@ -1,5 +1,5 @@
 -- What the headlines ask of a run is met: by a shaft on axis 1 while axis 0 is called between, by a counter with refused calls of six
--- kinds between its readings, and by a shaft with an index line that is homed both ways. Computed to their end.
+-- kinds between its readings, by a shaft with an index line that is homed both ways, and by speeds of both calls. Computed to their end.
 use Prim.Native.Nat.{ℕ, _^_, _+_, _*_}
 use mathlib.Core.Path.{refl}
 use mathlib.Core.Bool.{Bool, false}
@@ -13,9 +13,14 @@ use Rattle.integers.specs.Integer.{modZ, floorZ}
 use Rattle.integers.proofs.Balance.{bal-sub, bal-scale, eqZ, floor-is}
 use Rattle.position.specs.Position.{inRange, positionOf, wordOf}
 use Rattle.reckon.specs.Widening.{goodReading, orRange, nearestTo, widened}
+use Rattle.speed.specs.Rounding.{rounded, divided}
+use Rattle.speed.specs.Speed.{goodCount, goodSpeed, speedByCount}
+use Rattle.speed.specs.Sum.{Intervals, start, next}
+use Rattle.speed.proofs.StatedLaws.{parts}
 use Rattle.tagged.specs.Bytes.{starts}
 use Rattle.tagged.specs.Field.{fieldAt}
 use Rattle.axis.specs.Config.{goodConfig}
+use Rattle.axis.specs.Limit.{mostAxes}
 use Rattle.axis.specs.declared.row.Row.{Row}
 use Rattle.axis_sound.specs.Sound.{statusOf}
 use Rattle.axis_filter.specs.Lines.{levelOf}
@@ -32,11 +37,14 @@ use Rattle.row_sample.specs.Sample.{stepBy, stepRow}
 use Rattle.row_calls.specs.Calls.{setupRow, placeRow, presetRow, armRow, acknowledgeRow}
 use Rattle.row_calls.specs.Change.{changed}
 use Rattle.row_calls.specs.declared.apply.Change.the-variants.{Setup, Erase, Preset, Arm, Acknowledge}
+use Rattle.row_calls.proofs.StatedLaws.{PRIMED}
 use Rattle.row_view.specs.View.{viewRow}
 use Rattle.row_counter.specs.Reading.{readingRow, storedRow, readRow}
 use Rattle.row_counter.specs.Counter.{UnderHalf, still, polled}
 use Rattle.row_saving.specs.Saving.{restoredBy, restoreRow}
-use Rattle.table_rows.specs.Table.{rowAt}
+use Rattle.row_speed.specs.Speed.{speedOf, speedRow}
+use Rattle.table_rows.specs.Table.{axesIn, rowAt}
+use Rattle.table_rows.specs.Located.{located}
 use Rattle.table_port.specs.Port.{nibble}
 use Rattle.history_axis.specs.Acts.{arm}
 use Rattle.history_axis.specs.Latest.{streak, latest}
@@ -55,6 +63,7 @@ use Rattle.history.specs.Reference.{OnShaft}
 use Rattle.history.specs.Counter.{CounterReads, none, read, between, refusing}
 use Rattle.history.proofs.CounterHistory.{sample-aside, look-aside}
 use Rattle.promises.specs.Own.{seenLook, seen, eventOf, events, own}
+use Rattle.promises.specs.Day.{by-count, by-period, AnsweredOver}
 
 -- The shaft at an angle, with Z at 0.
 abbrev at : ℤ → ShaftSample
@@ -143,3 +152,20 @@ whole-met e k = record {
   apart = eqZ (e -ℤ pos 0) (floorZ e 4 *ℤ pos 4)
       (omega (arith, bal-sub e (pos 0), bal-scale (floorZ e 4) 4, floor-is e 4 (lit< tt), eqb-true (modZ e 4) 0 (k .at)));
 }
+
+-- ---- speeds
+
+-- A primed x4 axis with a direction, an age and a period.
+abbrev turning : ℕ → ℕ → ℕ → List ℕ
+turning direction age period = (2 ^ 62) ∷ (4 + 1 * 2 ^ 4 + PRIMED + direction * 2 ^ 48) ∷ (age + period * 2 ^ 32) ∷ 0 ∷ []
+
+-- At rate 1 with the divisor 3: by count of one count and of one back, and by period forward, by the period, and back, by the age.
+pub day-met :
+    Intervals (AnsweredOver 3 1) (pos 1 ∷ negsuc 0 ∷ pos 1 ∷ negsuc 0 ∷ [])
+    (parts (pos 333) (pos 1) 3 ∷ parts (negsuc 332) (negsuc 0) 3 ∷ parts (pos 333) (pos 1) 3 ∷ parts (negsuc 332) (negsuc 0) 3 ∷ [])
+unfolding rounded divided goodCount goodSpeed speedByCount mostAxes statusOf speedOf speedRow axesIn rowAt located
+day-met =
+    next _ _ (by-count 3 refl, refl)
+    (next _ _ (by-count 3 refl, refl)
+    (next _ _ (by-period (turning 1 0 3) 0 refl, refl)
+    (next _ _ (by-period (turning 2 3 1) 0 refl, refl) start)))

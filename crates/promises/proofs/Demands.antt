@@ -1,20 +1,24 @@
--- The three demands, in order: the thirteen theorems that the rest of this repository is for. Each is written out in the definitions of
+-- The three demands, in order: the fourteen theorems that the rest of this repository is for. Each is written out in the definitions of
 -- specs/ and proved in a line or two by the laws that it cites. That every call ends and never traps, whatever it is lent, is what the
 -- check of each function says, and no public call asks anything of its caller; what the calls answer and leave is what `Samples`, `Makes`,
--- `ReadingMakes`, `SaveMakes`, `viewedIn` and `speedIn` promise, in the contracts of table_port, table_change and table. A run of calls is
--- told by `tableRun` and `heard` of runs, and RunIs there says that each of its calls is what that call's contract promises.
+-- `ReadingMakes`, `SaveMakes`, `viewedIn` and `speedIn` promise, in the contracts of table_port, table_change and table, and for a speed by
+-- count `speedByCount`, in that of speed. A run of calls is told by `tableRun` and `heard` of runs, and RunIs there says that each of its
+-- calls is what that call's contract promises.
 use Prim.Native.Nat.{ℕ, _+_, _*_, _≤_, _<_, min}
 use mathlib.Core.Path.{_≡_, subst}
 use mathlib.Core.Logic.{_↔_, _≢_}
 use mathlib.Core.Bool.{Bool, false, _&&_}
 use mathlib.Core.List.{List, [], _∷_, _++_}
 use lib.Dec.{eqb}
-use lib.IntN.{ℤ, _+ℤ_, _-ℤ_}
+use lib.IntN.{ℤ, pos, natAbs, _+ℤ_, _-ℤ_, _*ℤ_}
 use lib.ListN.{length, take, drop}
 use Rattle.refusal.specs.declared.Refusal.{Refusal}
 use Rattle.refusal.specs.declared.Refusal.the-variants.{Length, Layout}
 use Rattle.fields.specs.Field.{flagOf}
 use Rattle.position.specs.Position.{positionOf}
+use Rattle.speed.specs.Sum.{sumOf, numbersOf, remaindersOf, Intervals, carriedBy}
+use Rattle.speed.specs.declared.Quotient.{Quotient}
+use Rattle.speed.proofs.SumLaws.{says-more, day-exact, day-carried}
 use Rattle.tagged.specs.Bytes.{AllBytes}
 use Rattle.axis.specs.Kind.{X4}
 use Rattle.axis.specs.Limit.{mostAxes}
@@ -56,12 +60,14 @@ use Rattle.history.specs.Counter.{CounterReads}
 use Rattle.promises.specs.Own.{events, own, toldSince}
 use Rattle.promises.specs.Agreement.{BeginAlike, EndAlike}
 use Rattle.promises.specs.Edge.{axisAfter, Following, NextSample}
+use Rattle.promises.specs.Day.{AnsweredOver}
 use Rattle.promises.proofs.Refusing.{sample-says, call-says}
 use Rattle.promises.proofs.CountIsRight.{row-told, position-told, doubles-told, double-told, bits-none}
 use Rattle.promises.proofs.UserSees.{view-told}
 use Rattle.promises.proofs.Shafts.{shaft-double, shaft-position, shaft-counter, shaft-reading}
 use Rattle.promises.proofs.Edges.{edge-homed, edge-position, edge-call, edge-other, edge-next}
 use Rattle.promises.proofs.Restoring.{restores-save, saves-restored, other-layout}
+use Rattle.promises.proofs.Days.{answered-divides}
 use Rattle.promises.proofs.Apart.{ends-alike}
 use Rattle.promises.proofs.ToldAlone.{heard-told}
 
@@ -171,6 +177,17 @@ pub layout-refused : (t : List ℕ) (k high low : ℕ) (rest : List ℕ) → hig
     k < axesIn (length t) → {u : List ℕ} {a : Done} → Makes (restoreRow (1 ∷ 0 ∷ 2 ∷ high ∷ low ∷ rest)) t k u a →
     (a ≡ Undone (Layout (high * 256 + low))) × (u ≡ t)
 layout-refused = other-layout
+
+-- HEADLINE: speeds add up to what was counted: over any list of answers of the two speed calls at one rate F with one divisor T, T times
+-- the sum of their numbers plus the sum of their remainders is exactly 1000 F times all counts; and where a caller keeps a carry, T times
+-- what was added plus the carry is that after any list, and the carry is at most half of T in size.
+pub speeds-summed : (T F : ℕ) {counts : List ℤ} {answers : List Quotient} → Intervals (AnsweredOver T F) counts answers →
+    ((sumOf (numbersOf answers) *ℤ pos T) +ℤ sumOf (remaindersOf answers) ≡ sumOf counts *ℤ pos (1000 * F))
+    × ((carriedBy T answers .sum *ℤ pos T) +ℤ carriedBy T answers .carry ≡ sumOf counts *ℤ pos (1000 * F))
+    × (2 * natAbs (carriedBy T answers .carry) ≤ T)
+speeds-summed T F day =
+    let known = says-more (answered-divides T F) day in
+    (day-exact T F known, day-carried T F known .0, day-carried T F known .1)
 
 -- ---- 3. Axes are apart
 

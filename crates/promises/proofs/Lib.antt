@@ -11,5 +11,6 @@ pub mod LazyPrograms
 pub mod Asked
 pub mod Shafts
 pub mod Edges
+pub mod Days
 pub mod UserSees
 pub mod Refusing

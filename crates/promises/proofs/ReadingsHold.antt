@@ -4,7 +4,7 @@ use mathlib.Core.List.{map}
 use Rattle.integers.specs.Integer.{modZ}
 use Rattle.position.specs.Position.{inRange, positionOf}
 use Rattle.reckon.specs.Widening.{goodReading, orRange, nearestTo, widened}
-use Rattle.speed.specs.Rounding.{rounded}
+use Rattle.speed.specs.Rounding.{rounded, divided}
 use Rattle.speed.specs.Speed.{goodCount, goodSpeed, speedByCount}
 use Rattle.axis_sound.specs.Sound.{statusOf}
 use Rattle.axis_filter.specs.Lines.{levelOf}
@@ -21,7 +21,7 @@ use Rattle.promises.specs.Readings.{setUp, sampledBy, counted, levelled,
 
 -- Each of the twelve shows what docs/RULES.md states.
 pub readings-hold : map (λ (r : Reading). r .gives) readings ≡ map (λ (r : Reading). r .stated) readings
-unfolding readings _shows_ setUp sampledBy counted levelled positionOf inRange modZ goodReading orRange nearestTo widened rounded
+unfolding readings _shows_ setUp sampledBy counted levelled positionOf inRange modZ goodReading orRange nearestTo widened rounded divided
     goodCount goodSpeed speedByCount statusOf placeOf levelOf line filterLine filtered x1 x2 x4 tableOf entry isE moveTo countedWord
     countedRange countedDoubles older pacedDirection pacedAge stepPeriod pacedPeriod edgeTo edgeBy offTurn
     primedBy settle atEdge withEntry outcome stepAxis stepBy

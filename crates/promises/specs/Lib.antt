@@ -2,3 +2,4 @@ pub mod Readings
 pub mod Own
 pub mod Agreement
 pub mod Edge
+pub mod Day

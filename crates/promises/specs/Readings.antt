@@ -66,6 +66,6 @@ readings =
     ∷ (reckons (widened 8 (pos 250) 122) shows reckons (Refused Half))
     ∷ (reckons (widened 8 (pos 250) 123) shows reckons (Number (pos 123)))
     ∷ (reckons (widened 8 (negsuc 0) 0) shows reckons (Number (pos 0)))
-    ∷ (speeds (speedByCount (pos 1) 3 1) shows speeds (Of (pos 333)))
-    ∷ (speeds (speedByCount (negsuc 0) 2000 1) shows speeds (Of (negsuc 0)))
+    ∷ (speeds (speedByCount (pos 1) 3 1) shows speeds (Of (record { number = pos 333; remainder = pos 1; divisor = 3 })))
+    ∷ (speeds (speedByCount (negsuc 0) 2000 1) shows speeds (Of (record { number = negsuc 0; remainder = pos 1000; divisor = 2000 })))
     ∷ []
