@@ -25,8 +25,8 @@ extern "C" {
 #endif
 
 /* The version of calls, rows, records and this header; CHANGELOG.md has its rule. */
-#define UBRENCHIP_VERSION "2.0.0"
-#define UBRENCHIP_VERSION_MAJOR 2
+#define UBRENCHIP_VERSION "3.0.0"
+#define UBRENCHIP_VERSION_MAJOR 3
 #define UBRENCHIP_VERSION_MINOR 0
 #define UBRENCHIP_VERSION_PATCH 0
 
@@ -92,12 +92,30 @@ typedef struct ubrenchip_answer {
 ubrenchip_answer ubrenchip_widen(uint64_t width, int64_t position, uint64_t reading);
 
 /*
+ * What a speed answers: number * divisor + remainder is exactly 1000 * counts * rate. The remainder is at
+ * most half the divisor, either way. Where it is exactly half, the number is still the one further from
+ * zero, so the two have opposite signs: -1 count over 2,000 samples at rate 1 is number -1, remainder 1000
+ * and divisor 2000. All three are 0 on a refusal.
+ *
+ * Where divisor and rate stay the same, numbers add up and remainders add up, so that a sum of both does
+ * not drift as one of numbers alone does. How a long sum is kept exact is shown in docs/HOSTS.md.
+ */
+typedef struct ubrenchip_speed {
+    uint32_t refusal;  /* UBRENCHIP_DONE, or why not */
+    uint32_t found;    /* always 0: no speed reads a record */
+    int64_t number;    /* thousandths of a count a second, to the nearest; halves away from zero */
+    int64_t remainder; /* what the number leaves over: above 0 where the number is too small */
+    uint64_t divisor;  /* samples, below 2^32 */
+} ubrenchip_speed;
+
+/*
  * The speed of a count difference over a number of samples at `rate` samples a second, in thousandths
- * of a count a second, rounded to the nearest; from the middle between two, away from zero.
+ * of a count a second, rounded to the nearest; from the middle between two, away from zero. The counts of
+ * the answer are the difference, and its divisor is the samples.
  * Differences are -(2^31 - 1) to 2^31 - 1; samples 1 to 2^32 - 1; rates 1 to 1,000,000.
  * Refusal: VALUE.
  */
-ubrenchip_answer ubrenchip_speed_by_count(int64_t difference, uint64_t samples, uint64_t rate);
+ubrenchip_speed ubrenchip_speed_by_count(int64_t difference, uint64_t samples, uint64_t rate);
 
 /*
  * Whether a slice of bytes is a saved record, the whole of it; value 0.
@@ -179,10 +197,12 @@ ubrenchip_answer ubrenchip_reading(uint64_t *table, size_t words, uint64_t axis,
 
 /*
  * Speed by period at `rate` samples a second, in thousandths of a count a second. Sampled axes only.
+ * The counts of the answer are 1 forward and -1 back. Its divisor is the period, the samples between the
+ * last two steps, or the age, the samples since the last step up to 2^32 - 1, whichever is larger.
  * Refusals: VALUE, NO PERIOD. There is no period before the second step, after a step that turned back,
  * after a double step, and after two steps that are 2^32 - 1 samples or more apart.
  */
-ubrenchip_answer ubrenchip_speed_by_period(const uint64_t *table, size_t words, uint64_t axis, uint64_t rate);
+ubrenchip_speed ubrenchip_speed_by_period(const uint64_t *table, size_t words, uint64_t axis, uint64_t rate);
 
 /* Saves an axis's configuration and position as a record, 34 or 27 bytes, whose number is answered. Refusal: ROOM. */
 ubrenchip_answer ubrenchip_save(const uint64_t *table, size_t words, uint64_t axis, uint8_t *buffer, size_t length);

@@ -11,16 +11,53 @@
 static int checks, wrong;
 static unsigned given; /* bit n: refusal n was answered where it should be */
 
-static void expect(const char *what, ubrenchip_answer got, uint32_t refusal, uint32_t found, int64_t value)
+/* Counts a check, and answers whether it was right. */
+static int counted(int right)
 {
     checks++;
-    if (got.refusal == refusal && got.found == found && got.value == value) {
+    wrong += !right;
+    return right;
+}
+
+static void expect(const char *what, ubrenchip_answer got, uint32_t refusal, uint32_t found, int64_t value)
+{
+    if (counted(got.refusal == refusal && got.found == found && got.value == value)) {
         given |= 1u << refusal;
         return;
     }
-    wrong++;
     printf("WRONG: %s: refusal %u, found %u, value %lld; it should be %u, %u, %lld\n", what, (unsigned)got.refusal,
            (unsigned)got.found, (long long)got.value, (unsigned)refusal, (unsigned)found, (long long)value);
+}
+
+static void expect_speed(const char *what, ubrenchip_speed got, ubrenchip_speed stated)
+{
+    if (counted(got.refusal == stated.refusal && got.found == stated.found && got.number == stated.number &&
+                got.remainder == stated.remainder && got.divisor == stated.divisor)) {
+        given |= 1u << stated.refusal;
+        return;
+    }
+    printf("WRONG: %s: refusal %u, found %u, number %lld, remainder %lld, divisor %llu; ", what, (unsigned)got.refusal,
+           (unsigned)got.found, (long long)got.number, (long long)got.remainder, (unsigned long long)got.divisor);
+    printf("it should be %u, %u, %lld, %lld, %llu\n", (unsigned)stated.refusal, (unsigned)stated.found,
+           (long long)stated.number, (long long)stated.remainder, (unsigned long long)stated.divisor);
+}
+
+static void speed_is(const char *what, ubrenchip_speed got, int64_t number, int64_t remainder, uint64_t divisor)
+{
+    expect_speed(what, got, (ubrenchip_speed){UBRENCHIP_DONE, 0, number, remainder, divisor});
+}
+
+/* A speed that is refused shows 0 in every field but the reason. */
+static void speed_refused(const char *what, ubrenchip_speed got, uint32_t refusal)
+{
+    expect_speed(what, got, (ubrenchip_speed){.refusal = refusal});
+}
+
+/* Anything else that should hold. */
+static inline void holds(const char *what, int right)
+{
+    if (!counted(right))
+        printf("WRONG: %s\n", what);
 }
 
 /* The number of the program's exit: 1 where a check was wrong or a refusal of `all` was never answered. */

@@ -30,21 +30,22 @@ static void kinds_and_configurations(void)
 static void positions_and_speeds(void)
 {
     const size_t words = UBRENCHIP_WORDS_A_ROW;
+    const uint64_t samples = UBRENCHIP_SAMPLES_LIMIT;
     setup("an axis", UBRENCHIP_KIND_X4, 1, 0, 0, 1);
     expect("the last position", ubrenchip_preset(table, words, 0, UBRENCHIP_POSITION_LIMIT), UBRENCHIP_DONE, 0, 0);
     expect("the first position", ubrenchip_preset(table, words, 0, -UBRENCHIP_POSITION_LIMIT), UBRENCHIP_DONE, 0, 0);
     expect("past the last", ubrenchip_preset(table, words, 0, UBRENCHIP_POSITION_LIMIT + 1), UBRENCHIP_VALUE, 0, 0);
     expect("past the first", ubrenchip_preset(table, words, 0, -UBRENCHIP_POSITION_LIMIT - 1), UBRENCHIP_VALUE, 0, 0);
-    expect("the most rate", ubrenchip_speed_by_count(1, 1, UBRENCHIP_RATE_LIMIT), UBRENCHIP_DONE, 0, 1000000000);
-    expect("more rate", ubrenchip_speed_by_count(1, 1, UBRENCHIP_RATE_LIMIT + 1), UBRENCHIP_VALUE, 0, 0);
-    expect("the most samples", ubrenchip_speed_by_count(0, UBRENCHIP_SAMPLES_LIMIT, 1), UBRENCHIP_DONE, 0, 0);
-    expect("more samples", ubrenchip_speed_by_count(0, (uint64_t)UBRENCHIP_SAMPLES_LIMIT + 1, 1), UBRENCHIP_VALUE, 0, 0);
-    expect("the most counts", ubrenchip_speed_by_count(UBRENCHIP_DIFFERENCE_LIMIT, 1000, 1), UBRENCHIP_DONE, 0,
-           UBRENCHIP_DIFFERENCE_LIMIT);
-    expect("more counts", ubrenchip_speed_by_count(UBRENCHIP_DIFFERENCE_LIMIT + 1, 1000, 1), UBRENCHIP_VALUE, 0, 0);
-    expect("the least counts", ubrenchip_speed_by_count(-UBRENCHIP_DIFFERENCE_LIMIT, 1000, 1), UBRENCHIP_DONE, 0,
-           -UBRENCHIP_DIFFERENCE_LIMIT);
-    expect("fewer counts", ubrenchip_speed_by_count(-UBRENCHIP_DIFFERENCE_LIMIT - 1, 1000, 1), UBRENCHIP_VALUE, 0, 0);
+    speed_is("the most rate", ubrenchip_speed_by_count(1, 1, UBRENCHIP_RATE_LIMIT), 1000000000, 0, 1);
+    speed_refused("more rate", ubrenchip_speed_by_count(1, 1, UBRENCHIP_RATE_LIMIT + 1), UBRENCHIP_VALUE);
+    speed_is("the most samples", ubrenchip_speed_by_count(1, samples, 1), 0, 1000, samples);
+    speed_refused("more samples", ubrenchip_speed_by_count(1, samples + 1, 1), UBRENCHIP_VALUE);
+    speed_is("the most counts", ubrenchip_speed_by_count(UBRENCHIP_DIFFERENCE_LIMIT, 1000, 1),
+             UBRENCHIP_DIFFERENCE_LIMIT, 0, 1000);
+    speed_refused("more counts", ubrenchip_speed_by_count(UBRENCHIP_DIFFERENCE_LIMIT + 1, 1000, 1), UBRENCHIP_VALUE);
+    speed_is("the least counts", ubrenchip_speed_by_count(-UBRENCHIP_DIFFERENCE_LIMIT, 1000, 1),
+             -UBRENCHIP_DIFFERENCE_LIMIT, 0, 1000);
+    speed_refused("fewer counts", ubrenchip_speed_by_count(-UBRENCHIP_DIFFERENCE_LIMIT - 1, 1000, 1), UBRENCHIP_VALUE);
 }
 
 static void tables_records_and_doubles(void)

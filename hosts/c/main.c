@@ -41,25 +41,70 @@ static void widening(void)
 
 static void speed(void)
 {
-    expect("1 in 3 at 1", ubrenchip_speed_by_count(1, 3, 1), UBRENCHIP_DONE, 0, 333);
-    expect("-1 in 2000 at 1", ubrenchip_speed_by_count(-1, 2000, 1), UBRENCHIP_DONE, 0, -1);
-    expect("1 in 2000 at 1", ubrenchip_speed_by_count(1, 2000, 1), UBRENCHIP_DONE, 0, 1);
-    expect("1 in 2001 at 1", ubrenchip_speed_by_count(1, 2001, 1), UBRENCHIP_DONE, 0, 0);
-    expect("-1 in 2001 at 1", ubrenchip_speed_by_count(-1, 2001, 1), UBRENCHIP_DONE, 0, 0);
-    expect("-3 in 2000 at 1", ubrenchip_speed_by_count(-3, 2000, 1), UBRENCHIP_DONE, 0, -2);
-    expect("0 in 1 at 1", ubrenchip_speed_by_count(0, 1, 1), UBRENCHIP_DONE, 0, 0);
-    expect("no samples", ubrenchip_speed_by_count(1, 0, 1), UBRENCHIP_VALUE, 0, 0);
-    expect("2^32 - 1 samples", ubrenchip_speed_by_count(2147483647, UINT32_MAX, 1), UBRENCHIP_DONE, 0, 500);
-    expect("2^32 samples", ubrenchip_speed_by_count(1, INT64_C(4294967296), 1), UBRENCHIP_VALUE, 0, 0);
-    expect("no rate", ubrenchip_speed_by_count(1, 1, 0), UBRENCHIP_VALUE, 0, 0);
-    expect("a rate of 1,000,001", ubrenchip_speed_by_count(1, 1, 1000001), UBRENCHIP_VALUE, 0, 0);
-    expect("the most that fits", ubrenchip_speed_by_count(2147483647, 1, 1000000), UBRENCHIP_DONE, 0,
-           INT64_C(2147483647000000000));
-    expect("the least that fits", ubrenchip_speed_by_count(-2147483647, 1, 1000000), UBRENCHIP_DONE, 0,
-           -INT64_C(2147483647000000000));
-    expect("2^31 counts", ubrenchip_speed_by_count(INT64_C(2147483648), 1, 1), UBRENCHIP_VALUE, 0, 0);
-    expect("-2^31 counts", ubrenchip_speed_by_count(-INT64_C(2147483648), 1, 1), UBRENCHIP_VALUE, 0, 0);
-    expect("the least number", ubrenchip_speed_by_count(INT64_MIN, 1, 1), UBRENCHIP_VALUE, 0, 0);
+    speed_is("1 in 3 at 1", ubrenchip_speed_by_count(1, 3, 1), 333, 1, 3);
+    speed_is("2 in 3 at 1", ubrenchip_speed_by_count(2, 3, 1), 667, -1, 3);
+    speed_is("-1 in 3 at 1", ubrenchip_speed_by_count(-1, 3, 1), -333, -1, 3);
+    speed_is("-2 in 3 at 1", ubrenchip_speed_by_count(-2, 3, 1), -667, 1, 3);
+    speed_is("1 in 1999 at 1", ubrenchip_speed_by_count(1, 1999, 1), 1, -999, 1999);
+    speed_is("-1 in 1999 at 1", ubrenchip_speed_by_count(-1, 1999, 1), -1, 999, 1999);
+    speed_is("1 in 2000 at 1", ubrenchip_speed_by_count(1, 2000, 1), 1, -1000, 2000);
+    speed_is("-1 in 2000 at 1", ubrenchip_speed_by_count(-1, 2000, 1), -1, 1000, 2000);
+    speed_is("1 in 2001 at 1", ubrenchip_speed_by_count(1, 2001, 1), 0, 1000, 2001);
+    speed_is("-1 in 2001 at 1", ubrenchip_speed_by_count(-1, 2001, 1), 0, -1000, 2001);
+    speed_is("3 in 2000 at 1", ubrenchip_speed_by_count(3, 2000, 1), 2, -1000, 2000);
+    speed_is("-3 in 2000 at 1", ubrenchip_speed_by_count(-3, 2000, 1), -2, 1000, 2000);
+    speed_is("0 in 1 at 1", ubrenchip_speed_by_count(0, 1, 1), 0, 0, 1);
+    speed_is("0 in 7 at 5", ubrenchip_speed_by_count(0, 7, 5), 0, 0, 7);
+    speed_is("2^32 - 1 samples", ubrenchip_speed_by_count(2147483647, UINT32_MAX, 1), 500, -500, UINT32_MAX);
+    speed_is("2^32 - 1 samples back", ubrenchip_speed_by_count(-2147483647, UINT32_MAX, 1), -500, 500, UINT32_MAX);
+    speed_is("the most of all three", ubrenchip_speed_by_count(2147483647, UINT32_MAX, 1000000),
+             500000000, -500000000, UINT32_MAX);
+    speed_is("the most of all three, back", ubrenchip_speed_by_count(-2147483647, UINT32_MAX, 1000000),
+             -500000000, 500000000, UINT32_MAX);
+    speed_is("all is left over", ubrenchip_speed_by_count(1, UINT32_MAX, 1000000), 0, 1000000000, UINT32_MAX);
+    speed_is("all is left over, back", ubrenchip_speed_by_count(-1, UINT32_MAX, 1000000), 0, -1000000000, UINT32_MAX);
+    speed_is("the most that fits", ubrenchip_speed_by_count(2147483647, 1, 1000000),
+             INT64_C(2147483647000000000), 0, 1);
+    speed_is("the least that fits", ubrenchip_speed_by_count(-2147483647, 1, 1000000),
+             -INT64_C(2147483647000000000), 0, 1);
+    speed_is("a great half", ubrenchip_speed_by_count(2147483647, 16, 999999),
+             INT64_C(134217593719772063), -8, 16);
+    speed_is("a great half back", ubrenchip_speed_by_count(-2147483647, 16, 999999),
+             -INT64_C(134217593719772063), 8, 16);
+    speed_is("a long half", ubrenchip_speed_by_count(2, 4000000000, 1000000), 1, -2000000000, 4000000000);
+    speed_is("a long half back", ubrenchip_speed_by_count(-2, 4000000000, 1000000), -1, 2000000000, 4000000000);
+    speed_refused("no samples", ubrenchip_speed_by_count(1, 0, 1), UBRENCHIP_VALUE);
+    speed_refused("2^32 samples", ubrenchip_speed_by_count(1, INT64_C(4294967296), 1), UBRENCHIP_VALUE);
+    speed_refused("no rate", ubrenchip_speed_by_count(1, 1, 0), UBRENCHIP_VALUE);
+    speed_refused("a rate of 1,000,001", ubrenchip_speed_by_count(1, 1, 1000001), UBRENCHIP_VALUE);
+    speed_refused("2^31 counts", ubrenchip_speed_by_count(INT64_C(2147483648), 1, 1), UBRENCHIP_VALUE);
+    speed_refused("-2^31 counts", ubrenchip_speed_by_count(-INT64_C(2147483648), 1, 1), UBRENCHIP_VALUE);
+    speed_refused("the least number", ubrenchip_speed_by_count(INT64_MIN, 1, 1), UBRENCHIP_VALUE);
+}
+
+/* What the header says of every speed, of one. */
+static void whole_speed(int64_t difference, uint64_t samples, uint64_t rate)
+{
+    const ubrenchip_speed got = ubrenchip_speed_by_count(difference, samples, rate);
+    const int64_t divisor = (int64_t)samples, twice = 2 * got.remainder;
+    holds("a speed is done", got.refusal == UBRENCHIP_DONE && got.found == 0 && got.divisor == samples);
+    holds("number and remainder make it up", got.number * divisor + got.remainder == 1000 * difference * (int64_t)rate);
+    holds("the remainder is at most half the divisor", -divisor <= twice && twice <= divisor);
+    holds("half of it below 0 is left by a number above 0", twice != -divisor || got.number > 0);
+    holds("half of it above 0 is left by a number below 0", twice != divisor || got.number < 0);
+}
+
+static void whole_speeds(void)
+{
+    static const int64_t differences[] = {0, 1, 2, 3, 499, 1000003, 2147483646, 2147483647};
+    static const uint64_t samples[] = {1, 2, 3, 7, 16, 1999, 2000, 2001, 999983, 4000000000, 4294967294, UINT32_MAX};
+    static const uint64_t rates[] = {1, 2, 3, 1000, 999999, 1000000};
+    for (unsigned i = 0; i < sizeof differences / sizeof differences[0]; i++)
+        for (unsigned j = 0; j < sizeof samples / sizeof samples[0]; j++)
+            for (unsigned k = 0; k < sizeof rates / sizeof rates[0]; k++) {
+                whole_speed(differences[i], samples[j], rates[k]);
+                whole_speed(-differences[i], samples[j], rates[k]);
+            }
 }
 
 /* x4, depth 3, 4096 a turn, position -2. */
@@ -100,6 +145,7 @@ int main(void)
 {
     widening();
     speed();
+    whole_speeds();
     records();
     return verdict("the C host", 1u << UBRENCHIP_VALUE | 1u << UBRENCHIP_HALF | 1u << UBRENCHIP_RANGE | 1u << UBRENCHIP_LAYOUT |
                                      1u << UBRENCHIP_RECORD);

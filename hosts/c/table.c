@@ -49,11 +49,8 @@ static void refused(const char *what, ubrenchip_answer got, uint32_t refusal)
 
 static void same(const char *what, uint64_t got, uint64_t stated)
 {
-    checks++;
-    if (got == stated)
-        return;
-    wrong++;
-    printf("WRONG: %s: %llu; it should be %llu\n", what, (unsigned long long)got, (unsigned long long)stated);
+    if (!counted(got == stated))
+        printf("WRONG: %s: %llu; it should be %llu\n", what, (unsigned long long)got, (unsigned long long)stated);
 }
 
 static void sampled(const char *what, ubrenchip_sampled got, ubrenchip_sampled stated)
@@ -539,17 +536,57 @@ static void speed_by_period(void)
     done("setup", ubrenchip_setup(table, WORDS, 0, 4, 1, 0, 0));
     hold(0, 0);
     hold(1, 4);
-    refused("one step", ubrenchip_speed_by_period(table, WORDS, 0, 1000), UBRENCHIP_NO_PERIOD);
+    speed_refused("one step", ubrenchip_speed_by_period(table, WORDS, 0, 1000), UBRENCHIP_NO_PERIOD);
     hold(3, 0);
-    value("steps 5 apart", ubrenchip_speed_by_period(table, WORDS, 0, 1000), 200000);
-    hold(3, 11);
-    value("12 after the last", ubrenchip_speed_by_period(table, WORDS, 0, 1000), 83333);
-    refused("rate 0", ubrenchip_speed_by_period(table, WORDS, 0, 0), UBRENCHIP_VALUE);
-    refused("rate 1,000,001", ubrenchip_speed_by_period(table, WORDS, 0, 1000001), UBRENCHIP_VALUE);
+    speed_is("steps 5 apart", ubrenchip_speed_by_period(table, WORDS, 0, 1000), 200000, 0, 5);
+    hold(3, 4);
+    speed_is("5 after the last", ubrenchip_speed_by_period(table, WORDS, 0, 1000), 200000, 0, 5);
+    hold(3, 6);
+    speed_is("12 after the last", ubrenchip_speed_by_period(table, WORDS, 0, 1000), 83333, 4, 12);
+    speed_refused("rate 0", ubrenchip_speed_by_period(table, WORDS, 0, 0), UBRENCHIP_VALUE);
+    speed_refused("rate 1,000,001", ubrenchip_speed_by_period(table, WORDS, 0, 1000001), UBRENCHIP_VALUE);
     hold(1, 4);
-    refused("turned back", ubrenchip_speed_by_period(table, WORDS, 0, 1000), UBRENCHIP_NO_PERIOD);
+    speed_refused("turned back", ubrenchip_speed_by_period(table, WORDS, 0, 1000), UBRENCHIP_NO_PERIOD);
     hold(0, 0);
-    value("backward", ubrenchip_speed_by_period(table, WORDS, 0, 1000), -200000);
+    speed_is("backward", ubrenchip_speed_by_period(table, WORDS, 0, 1000), -200000, 0, 5);
+    hold(0, 6);
+    speed_is("7 after the last", ubrenchip_speed_by_period(table, WORDS, 0, 1), -143, 1, 7);
+}
+
+/* The speed by period of an x4 axis that goes forward, 1, or back, 2, with these two in its word 2. */
+static ubrenchip_speed paced(uint64_t direction, uint64_t age, uint64_t period, uint64_t rate)
+{
+    table[0] = at(0);
+    table[1] = 4 | 1 << 4 | PRIMED | direction << 48;
+    table[2] = age | period << 32;
+    table[3] = 0;
+    return ubrenchip_speed_by_period(table, WORDS, 0, rate);
+}
+
+/* The divisor is the larger of period and age; halves both ways, and the longest of both. */
+static void remainders_by_period(void)
+{
+    const uint64_t last = UINT32_MAX;
+    empty();
+    speed_is("the period is larger", paced(1, 6, 7, 1), 143, -1, 7);
+    speed_is("they are alike", paced(1, 7, 7, 1), 143, -1, 7);
+    speed_is("the age is larger", paced(1, 9, 7, 1), 111, 1, 9);
+    speed_is("the period is larger, back", paced(2, 6, 7, 1), -143, 1, 7);
+    speed_is("they are alike, back", paced(2, 7, 7, 1), -143, 1, 7);
+    speed_is("the age is larger, back", paced(2, 9, 7, 1), -111, -1, 9);
+    speed_is("a half by the period", paced(1, 0, 16, 1), 63, -8, 16);
+    speed_is("a half by the age", paced(1, 16, 1, 1), 63, -8, 16);
+    speed_is("a half by the period, back", paced(2, 0, 16, 1), -63, 8, 16);
+    speed_is("a half by the age, back", paced(2, 16, 1, 1), -63, 8, 16);
+    speed_is("a step each sample", paced(1, 0, 1, 1000000), 1000000000, 0, 1);
+    speed_is("a step back each sample", paced(2, 0, 1, 1000000), -1000000000, 0, 1);
+    speed_is("a long half", paced(1, 3, 2000000000, 1000000), 1, -1000000000, 2000000000);
+    speed_is("a long half back", paced(2, 2000000000, 3, 1000000), -1, 1000000000, 2000000000);
+    speed_is("the longest period", paced(1, 0, last - 1, 1000000), 0, 1000000000, last - 1);
+    speed_is("the longest age", paced(2, last, last - 1, 1000000), 0, -1000000000, last);
+    speed_is("the longest age at rate 1", paced(1, last, 1, 1), 0, 1000, last);
+    speed_refused("no period", paced(1, 9, 0, 1), UBRENCHIP_NO_PERIOD);
+    speed_refused("no rate, and no period", paced(1, 9, 0, 0), UBRENCHIP_VALUE);
 }
 
 static void saving(void)
@@ -631,7 +668,7 @@ static void one_row(void)
     shows("looked at", ubrenchip_view(table, WORDS, 1),
           (ubrenchip_viewed){.position = 5, .kind = 4, .doubles = 9, .primed = 1, .homed = 1, .range = 1, .index = 1});
     kept("a look");
-    value("speed", ubrenchip_speed_by_period(table, WORDS, 1, 7), -1000);
+    speed_is("speed", ubrenchip_speed_by_period(table, WORDS, 1, 7), -1000, 0, 7);
     kept("a speed");
     value("save", ubrenchip_save(table, WORDS, 1, buffer, sizeof buffer), 34);
     kept("a save");
@@ -673,7 +710,7 @@ static void all_refused(const char *what, uint64_t *words, size_t count, uint64_
     refused(what, ubrenchip_acknowledge(words, count, axis), refusal);
     shows(what, ubrenchip_view(words, count, axis), (ubrenchip_viewed){.refusal = refusal});
     refused(what, ubrenchip_reading(words, count, axis, 0), refusal);
-    refused(what, ubrenchip_speed_by_period(words, count, axis, 1000), refusal);
+    speed_refused(what, ubrenchip_speed_by_period(words, count, axis, 1000), refusal);
     refused(what, ubrenchip_save(words, count, axis, buffer, sizeof buffer), refusal);
     unwritten(what, buffer, sizeof buffer);
 }
@@ -707,7 +744,7 @@ static void refusals(void)
     all_refused("empty", table, WORDS, 1, UBRENCHIP_EMPTY, 0);
     refused("arm of a counter", ubrenchip_arm(table, WORDS, 0), UBRENCHIP_KIND);
     refused("acknowledge of a counter", ubrenchip_acknowledge(table, WORDS, 0), UBRENCHIP_KIND);
-    refused("speed of a counter at rate 0", ubrenchip_speed_by_period(table, WORDS, 0, 0), UBRENCHIP_KIND);
+    speed_refused("speed of a counter at rate 0", ubrenchip_speed_by_period(table, WORDS, 0, 0), UBRENCHIP_KIND);
     refused("reading 2^62 of an axis", ubrenchip_reading(table, WORDS, 3, (uint64_t)TOP + 1), UBRENCHIP_KIND);
     kept("refused calls");
 }
@@ -742,6 +779,7 @@ int main(void)
     every_double();
     readings();
     speed_by_period();
+    remainders_by_period();
     saving();
     one_row();
     refusals();

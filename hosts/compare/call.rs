@@ -1,7 +1,7 @@
 //! The calls, the memory that is lent to them, and how each is made of the library and of the reference.
 
 use crate::library;
-use crate::reference::{Axis, Masks, Reference, Refusal, MOST_AXES};
+use crate::reference::{Axis, Masks, Reference, Refusal, Speed, MOST_AXES};
 
 /// A call and its numbers. Save, restore and the record's test work on the bytes that the memory lends.
 #[derive(Clone, Copy, Debug)]
@@ -128,6 +128,7 @@ impl Memory {
 #[derive(Clone, Copy, PartialEq, Eq, Debug)]
 pub enum Outcome {
     Answer(library::Answer),
+    Speed(library::Speed),
     Sampled(library::Sampled),
     Viewed(library::Viewed),
 }
@@ -136,6 +137,7 @@ impl Outcome {
     pub fn refusal(&self) -> u32 {
         match self {
             Outcome::Answer(answer) => answer.refusal,
+            Outcome::Speed(speed) => speed.refusal,
             Outcome::Sampled(sampled) => sampled.refusal,
             Outcome::Viewed(viewed) => viewed.refusal,
         }
@@ -148,17 +150,19 @@ pub fn proved(call: &Call, memory: &mut Memory) -> Outcome {
     Outcome::Answer(match *call {
         Call::Sample { port } => return Outcome::Sampled(library::sample(table, port)),
         Call::View { axis } => return Outcome::Viewed(library::view(table, axis)),
+        Call::SpeedByPeriod { axis, rate } => return Outcome::Speed(library::speed_by_period(table, axis, rate)),
+        Call::SpeedByCount { difference, samples, rate } => {
+            return Outcome::Speed(library::speed_by_count(difference, samples, rate));
+        }
         Call::Setup { axis, kind, depth, width, turn } => library::setup(table, axis, kind, depth, width, turn),
         Call::Erase { axis } => library::erase(table, axis),
         Call::Preset { axis, position } => library::preset(table, axis, position),
         Call::Arm { axis } => library::arm(table, axis),
         Call::Acknowledge { axis } => library::acknowledge(table, axis),
         Call::Reading { axis, reading } => library::reading(table, axis, reading),
-        Call::SpeedByPeriod { axis, rate } => library::speed_by_period(table, axis, rate),
         Call::Save { axis } => library::save(table, axis, bytes),
         Call::Restore { axis } => library::restore(table, axis, bytes),
         Call::Widen { width, position, reading } => library::widen(width, position, reading),
-        Call::SpeedByCount { difference, samples, rate } => library::speed_by_count(difference, samples, rate),
         Call::TestRecord => library::test_record(bytes),
     })
 }
@@ -170,6 +174,10 @@ pub fn plain(reference: &Reference, call: &Call, memory: &mut Memory) -> Outcome
     answer(match *call {
         Call::Sample { port } => return sampled(reference.sample(table, port)),
         Call::View { axis } => return viewed(reference.view(table, axis)),
+        Call::SpeedByPeriod { axis, rate } => return speed(reference.speed_by_period(table, axis, rate)),
+        Call::SpeedByCount { difference, samples, rate } => {
+            return speed(reference.speed_by_count(difference, samples, rate));
+        }
         Call::Setup { axis, kind, depth, width, turn } => {
             reference.setup(table, axis, kind, depth, width, turn).map(done)
         }
@@ -178,11 +186,9 @@ pub fn plain(reference: &Reference, call: &Call, memory: &mut Memory) -> Outcome
         Call::Arm { axis } => reference.arm(table, axis).map(done),
         Call::Acknowledge { axis } => reference.acknowledge(table, axis).map(done),
         Call::Reading { axis, reading } => reference.reading(table, axis, reading),
-        Call::SpeedByPeriod { axis, rate } => reference.speed_by_period(table, axis, rate),
         Call::Save { axis } => reference.save(table, axis, bytes),
         Call::Restore { axis } => reference.restore(table, axis, bytes).map(done),
         Call::Widen { width, position, reading } => reference.widen(width, position, reading),
-        Call::SpeedByCount { difference, samples, rate } => reference.speed_by_count(difference, samples, rate),
         Call::TestRecord => reference.test_record(bytes).map(done),
     })
 }
@@ -198,6 +204,12 @@ fn reason<T>(result: &Result<T, Refusal>) -> (u32, u32) {
 fn answer(result: Result<i64, Refusal>) -> Outcome {
     let (refusal, found) = reason(&result);
     Outcome::Answer(library::Answer { refusal, found, value: result.unwrap_or(0) })
+}
+
+fn speed(result: Result<Speed, Refusal>) -> Outcome {
+    let (refusal, found) = reason(&result);
+    let Speed { number, remainder, divisor } = result.unwrap_or_default();
+    Outcome::Speed(library::Speed { refusal, found, number, remainder, divisor: divisor.into() })
 }
 
 fn sampled(result: Result<Masks, Refusal>) -> Outcome {

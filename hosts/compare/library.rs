@@ -2,7 +2,7 @@
 //! as it is.
 
 use ubrenchip::c;
-pub use ubrenchip::c::{Answer, Sampled, Viewed};
+pub use ubrenchip::c::{Answer, Sampled, Speed, Viewed};
 
 /// The pointer that C passes for a slice: null where there is nothing.
 ///
@@ -22,7 +22,7 @@ pub fn widen(width: u64, position: i64, reading: u64) -> Answer {
     unsafe { c::ubrenchip_widen(width, position, reading) }
 }
 
-pub fn speed_by_count(difference: i64, samples: u64, rate: u64) -> Answer {
+pub fn speed_by_count(difference: i64, samples: u64, rate: u64) -> Speed {
     unsafe { c::ubrenchip_speed_by_count(difference, samples, rate) }
 }
 
@@ -62,7 +62,7 @@ pub fn reading(table: &mut [u64], axis: u64, reading: u64) -> Answer {
     unsafe { c::ubrenchip_reading(pointer(table), table.len(), axis, reading) }
 }
 
-pub fn speed_by_period(table: &mut [u64], axis: u64, rate: u64) -> Answer {
+pub fn speed_by_period(table: &mut [u64], axis: u64, rate: u64) -> Speed {
     unsafe { c::ubrenchip_speed_by_period(pointer(table), table.len(), axis, rate) }
 }
 

@@ -1,7 +1,7 @@
 //! The readings of docs/RULES.md ("Readings to hold it against"), each asked through calls.
 
 use crate::call::{Call, Memory, Outcome};
-use crate::library::{Answer, Sampled, Viewed};
+use crate::library::{Answer, Sampled, Speed, Viewed};
 
 const TOP: i64 = (1 << 62) - 1;
 const VALUE: u32 = 6;
@@ -31,6 +31,12 @@ impl Bench<'_> {
 
     fn refused(&mut self, call: Call, refusal: u32) {
         assert_eq!(self.call(call), Answer { refusal, found: 0, value: 0 }, "{call:?}");
+    }
+
+    /// Asserts what a speed answers: the reason, 0 for done, and its three parts.
+    fn speed(&mut self, call: Call, refusal: u32, number: i64, remainder: i64, divisor: u64) {
+        let stated = Speed { refusal, found: 0, number, remainder, divisor };
+        assert_eq!((self.side)(&call, &mut self.memory), Outcome::Speed(stated), "{call:?}");
     }
 
     /// A new sampled axis without counts per turn.
@@ -134,10 +140,11 @@ fn homing(bench: &mut Bench) {
 }
 
 fn speeds(bench: &mut Bench) {
-    for (difference, samples, speed) in [(1, 3, 333), (-1, 2000, -1), (1, 2001, 0)] {
-        assert_eq!(bench.value(Call::SpeedByCount { difference, samples, rate: 1 }), speed);
-    }
-    bench.refused(Call::SpeedByCount { difference: 1, samples: 0, rate: 1 }, VALUE);
+    let by_count = |difference, samples| Call::SpeedByCount { difference, samples, rate: 1 };
+    bench.speed(by_count(1, 3), 0, 333, 1, 3);
+    bench.speed(by_count(-1, 2000), 0, -1, 1000, 2000);
+    bench.speed(by_count(1, 2001), 0, 0, 1000, 2001);
+    bench.speed(by_count(1, 0), VALUE, 0, 0, 0);
 
     bench.start(4, 1);
     bench.samples(&[0]);
@@ -145,10 +152,10 @@ fn speeds(bench: &mut Bench) {
         bench.samples(&[code; 5]);
     }
     bench.samples(&[0]);
-    let speed = Call::SpeedByPeriod { axis: 0, rate: 1000 };
-    assert_eq!(bench.value(speed), 200_000);
+    let by_period = Call::SpeedByPeriod { axis: 0, rate: 1000 };
+    bench.speed(by_period, 0, 200_000, 0, 5);
     bench.samples(&[0; 12]);
-    assert_eq!(bench.value(speed), 83_333);
+    bench.speed(by_period, 0, 83_333, 4, 12);
 }
 
 fn setting_up(bench: &mut Bench) {

@@ -3,6 +3,7 @@
 //! It follows the text of docs/RULES.md and shares nothing with the proved code; what else was at hand when it was written
 //! is said in docs/DECISIONS.md. Sections in quotes are that text's.
 
+use std::cmp::Ordering;
 use std::ops::Range;
 
 /// A position runs from `-LIMIT` to `LIMIT` ("One row, four words").
@@ -350,6 +351,14 @@ pub struct Masks {
     pub broken: u16,
 }
 
+/// A speed in thousandths of a count a second, what it leaves over, and the samples that were divided by.
+#[derive(Clone, Copy, Default)]
+pub struct Speed {
+    pub number: i64,
+    pub remainder: i64,
+    pub divisor: u32,
+}
+
 /// An error, put in on purpose to show that the comparison finds it.
 #[derive(Clone, Copy, PartialEq, Eq, Debug)]
 pub enum Fault {
@@ -364,11 +373,17 @@ pub enum Fault {
     CheckedAfterCount,
     SwallowedStep,
     HeldStepMarked,
+    HalfTowardZero,
+    OppositeRemainder,
+    UnroundedRemainder,
+    DividedByPeriod,
+    PeriodAnswered,
 }
 
 impl Fault {
-    /// The errors and what each does: five that were seen in the field, and five ways to get a reference edge wrong.
-    pub const ALL: [(Fault, &'static str); 10] = [
+    /// The errors and what each does: five that were seen in the field, five ways to get a reference edge wrong, and
+    /// five to get a part of a speed wrong.
+    pub const ALL: [(Fault, &'static str); 15] = [
         (Fault::ComparedBeforeReducing, "a reading compared with the position before reducing"),
         (Fault::EveryRise, "x1 counting every rise of A"),
         (Fault::DoubleAsTwoSteps, "a double step taken as two steps in the last direction"),
@@ -379,6 +394,11 @@ impl Fault {
         (Fault::CheckedAfterCount, "a check backward after the count"),
         (Fault::SwallowedStep, "a homing backward that swallows its own step"),
         (Fault::HeldStepMarked, "RANGE left set where the step that homes starts at the end of the range"),
+        (Fault::HalfTowardZero, "a speed's half rounded toward zero"),
+        (Fault::OppositeRemainder, "a speed's remainder of the wrong sign"),
+        (Fault::UnroundedRemainder, "the remainder of a speed that is cut and not rounded"),
+        (Fault::DividedByPeriod, "a speed by period divided by the period where the age is larger"),
+        (Fault::PeriodAnswered, "the period answered as the divisor where the age is larger"),
     ];
 }
 
@@ -593,7 +613,7 @@ impl Reference {
         Ok(position)
     }
 
-    pub fn speed_by_period(&self, table: &[u64], axis: u64, rate: u64) -> Result<i64, Refusal> {
+    pub fn speed_by_period(&self, table: &[u64], axis: u64, rate: u64) -> Result<Speed, Refusal> {
         let axis = sampled(row(table, axis)?)?;
         if !is_rate(rate) {
             return Err(Refusal::Value);
@@ -601,7 +621,10 @@ impl Reference {
         if axis.period == 0 {
             return Err(Refusal::NoPeriod);
         }
-        Ok(self.quotient(axis.direction * 1000 * rate as i64, axis.period.max(axis.age).into()))
+        let larger = if self.fault == Fault::DividedByPeriod { axis.period } else { axis.period.max(axis.age) };
+        let speed = self.speed(axis.direction, larger, rate);
+        let divisor = if self.fault == Fault::PeriodAnswered { axis.period } else { speed.divisor };
+        Ok(Speed { divisor, ..speed })
     }
 
     pub fn save(&self, table: &[u64], axis: u64, buffer: &mut [u8]) -> Result<i64, Refusal> {
@@ -632,12 +655,12 @@ impl Reference {
         self.nearest(width as u32, position, reading)
     }
 
-    pub fn speed_by_count(&self, difference: i64, samples: u64, rate: u64) -> Result<i64, Refusal> {
+    pub fn speed_by_count(&self, difference: i64, samples: u64, rate: u64) -> Result<Speed, Refusal> {
         let most = (1 << 31) - 1;
         if !(-most..=most).contains(&difference) || !(1..1 << 32).contains(&samples) || !is_rate(rate) {
             return Err(Refusal::Value);
         }
-        Ok(self.quotient(1000 * difference * rate as i64, samples as i64))
+        Ok(self.speed(difference, samples as u32, rate))
     }
 
     pub fn test_record(&self, record: &[u8]) -> Result<(), Refusal> {
@@ -662,9 +685,9 @@ impl Reference {
             (reading - position).rem_euclid(turn)
         };
         let nearest = match ahead.cmp(&(turn / 2)) {
-            std::cmp::Ordering::Less => position + ahead,
-            std::cmp::Ordering::Equal => return Err(Refusal::Half),
-            std::cmp::Ordering::Greater => position + ahead - turn,
+            Ordering::Less => position + ahead,
+            Ordering::Equal => return Err(Refusal::Half),
+            Ordering::Greater => position + ahead - turn,
         };
         if is_position(nearest) {
             Ok(nearest)
@@ -673,12 +696,28 @@ impl Reference {
         }
     }
 
-    /// The whole number nearest to a quotient, halves away from zero. The products here stay below 2^62.
-    fn quotient(&self, dividend: i64, divisor: i64) -> i64 {
-        if self.fault == Fault::Truncated {
-            return (2 * dividend + divisor) / (2 * divisor);
-        }
-        dividend.signum() * ((2 * dividend.abs() + divisor) / (2 * divisor))
+    /// The speed of some counts over a number of samples, 1 at least: of the two whole numbers about the quotient the
+    /// nearer one, from the middle the one further from zero; and what that leaves over.
+    fn speed(&self, counts: i64, samples: u32, rate: u64) -> Speed {
+        let dividend = 1000 * i128::from(counts) * i128::from(rate);
+        let divisor = i128::from(samples);
+        let (below, over) = (dividend.div_euclid(divisor), dividend.rem_euclid(divisor));
+        let takes_upper = match (2 * over).cmp(&divisor) {
+            Ordering::Less => false,
+            Ordering::Equal => (dividend > 0) != (self.fault == Fault::HalfTowardZero),
+            Ordering::Greater => true,
+        };
+        let number = match self.fault {
+            Fault::Truncated => (2 * dividend + divisor) / (2 * divisor),
+            _ => below + i128::from(takes_upper),
+        };
+        let remainder = match self.fault {
+            Fault::OppositeRemainder => number * divisor - dividend,
+            Fault::UnroundedRemainder => dividend % divisor,
+            _ => dividend - number * divisor,
+        };
+        let fits = |number: i128| i64::try_from(number).expect("counts, samples and rate keep their limits");
+        Speed { number: fits(number), remainder: fits(remainder), divisor: samples }
     }
 }
 

@@ -3,7 +3,7 @@
 use ubrenchip::{Refusal, Table};
 
 use crate::call::{Call, Memory, Outcome};
-use crate::library::{Answer, Sampled, Viewed};
+use crate::library::{Answer, Sampled, Speed, Viewed};
 
 /// Makes a call of the proved library through the crate `ubrenchip`.
 pub fn wrapped(call: &Call, memory: &mut Memory) -> Outcome {
@@ -13,17 +13,19 @@ pub fn wrapped(call: &Call, memory: &mut Memory) -> Outcome {
     answer(match *call {
         Call::Sample { port } => return sampled(table.sample(port)),
         Call::View { axis } => return viewed(table.view(axis)),
+        Call::SpeedByPeriod { axis, rate } => return speed(table.speed_by_period(axis, rate)),
+        Call::SpeedByCount { difference, samples, rate } => {
+            return speed(ubrenchip::speed_by_count(difference, samples, rate));
+        }
         Call::Setup { axis, kind, depth, width, turn } => table.setup(axis, kind, depth, width, turn).map(done),
         Call::Erase { axis } => table.erase(axis).map(done),
         Call::Preset { axis, position } => table.preset(axis, position).map(done),
         Call::Arm { axis } => table.arm(axis).map(done),
         Call::Acknowledge { axis } => table.acknowledge(axis).map(done),
         Call::Reading { axis, reading } => table.reading(axis, reading),
-        Call::SpeedByPeriod { axis, rate } => table.speed_by_period(axis, rate),
         Call::Save { axis } => table.save(axis, bytes).map(|length| length as i64),
         Call::Restore { axis } => table.restore(axis, bytes).map(done),
         Call::Widen { width, position, reading } => ubrenchip::widen(width, position, reading),
-        Call::SpeedByCount { difference, samples, rate } => ubrenchip::speed_by_count(difference, samples, rate),
         Call::TestRecord => ubrenchip::test_record(bytes).map(done),
     })
 }
@@ -44,6 +46,13 @@ fn reason<T>(result: &Result<T, Refusal>) -> (u32, u32) {
 fn answer(result: Result<i64, Refusal>) -> Outcome {
     let (refusal, found) = reason(&result);
     Outcome::Answer(Answer { refusal, found, value: result.unwrap_or(0) })
+}
+
+fn speed(result: Result<ubrenchip::Speed, Refusal>) -> Outcome {
+    let (refusal, found) = reason(&result);
+    let none = ubrenchip::Speed { number: 0, remainder: 0, divisor: 0 };
+    let ubrenchip::Speed { number, remainder, divisor } = result.unwrap_or(none);
+    Outcome::Speed(Speed { refusal, found, number, remainder, divisor })
 }
 
 fn sampled(result: Result<ubrenchip::Sampled, Refusal>) -> Outcome {

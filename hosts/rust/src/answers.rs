@@ -117,6 +117,25 @@ impl fmt::Display for Refusal {
     }
 }
 
+/// A speed, with what rounding it left over: `number * divisor + remainder` is exactly 1000 times the
+/// counts times the rate.
+///
+/// Where divisor and rate stay the same, numbers add up and remainders add up, so that a sum of both
+/// does not drift as one of numbers alone does. docs/HOSTS.md, "Summing speeds", shows how a long sum
+/// is kept exact.
+#[derive(Clone, Copy, PartialEq, Eq, Hash, Debug)]
+pub struct Speed {
+    /// Thousandths of a count a second, below 0 for back, rounded to the nearest and from the middle
+    /// between two away from zero.
+    pub number: i64,
+    /// What the number leaves over, above 0 where the number is too small: at most half the divisor
+    /// either way. Where it is exactly half its sign is opposite to the number's.
+    pub remainder: i64,
+    /// The samples that were divided by, below 2^32: those of a speed by count, and for a speed by
+    /// period the larger of period and age.
+    pub divisor: u64,
+}
+
 /// What a port sample saw: bit k of each mask is axis k's, k from 0 to 15.
 #[derive(Clone, Copy, PartialEq, Eq, Hash, Debug)]
 pub struct Sampled {
@@ -160,6 +179,17 @@ impl c::Answer {
     /// That the call was done, unless it was refused.
     pub(crate) fn done(self) -> Result<(), Refusal> {
         Refusal::check(self.refusal, self.found)
+    }
+}
+
+impl c::Speed {
+    /// The speed, unless the call was refused.
+    pub(crate) fn speed(self) -> Result<Speed, Refusal> {
+        Refusal::check(self.refusal, self.found).map(|()| Speed {
+            number: self.number,
+            remainder: self.remainder,
+            divisor: self.divisor,
+        })
     }
 }
 

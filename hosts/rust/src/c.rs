@@ -45,6 +45,23 @@ pub struct Answer {
     pub value: i64,
 }
 
+/// What a speed answers: `number * divisor + remainder` is exactly 1000 times the counts times the
+/// rate. All three are 0 on a refusal.
+#[repr(C)]
+#[derive(Clone, Copy, PartialEq, Eq, Debug)]
+pub struct Speed {
+    /// 0 for done, or why not.
+    pub refusal: u32,
+    /// Always 0.
+    pub found: u32,
+    /// Thousandths of a count a second, to the nearest; halves away from zero.
+    pub number: i64,
+    /// What the number leaves over, at most half the divisor either way.
+    pub remainder: i64,
+    /// Samples, below 2^32.
+    pub divisor: u64,
+}
+
 /// What a port sample answers: bit k of each mask is axis k's, and all are 0 on a refusal.
 #[repr(C)]
 #[derive(Clone, Copy, PartialEq, Eq, Debug)]
@@ -94,7 +111,7 @@ extern "C" {
     pub fn ubrenchip_widen(width: u64, position: i64, reading: u64) -> Answer;
 
     /// See [`crate::speed_by_count`].
-    pub fn ubrenchip_speed_by_count(difference: i64, samples: u64, rate: u64) -> Answer;
+    pub fn ubrenchip_speed_by_count(difference: i64, samples: u64, rate: u64) -> Speed;
 
     /// See [`crate::test_record`].
     pub fn ubrenchip_test_record(record: *const u8, length: usize) -> Answer;
@@ -137,7 +154,7 @@ extern "C" {
         words: usize,
         axis: u64,
         rate: u64,
-    ) -> Answer;
+    ) -> Speed;
 
     /// See [`crate::Table::save`].
     pub fn ubrenchip_save(

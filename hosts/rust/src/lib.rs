@@ -9,7 +9,7 @@ mod limits;
 mod plain;
 mod table;
 
-pub use answers::{Refusal, Sampled, View};
+pub use answers::{Refusal, Sampled, Speed, View};
 pub use limits::*;
 pub use plain::{speed_by_count, test_record, widen};
 pub use table::Table;

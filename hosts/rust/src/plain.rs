@@ -1,6 +1,6 @@
 //! The calls that need no table.
 
-use crate::answers::Refusal;
+use crate::answers::{Refusal, Speed};
 use crate::c;
 
 /// The position that `reading`, the count of a counter of `width` bits, says, where the last known
@@ -18,14 +18,14 @@ pub fn widen(width: u64, position: i64, reading: u64) -> Result<i64, Refusal> {
 
 /// The speed of a count difference over a number of samples at `rate` samples a second, in
 /// thousandths of a count a second, rounded to the nearest and from the middle between two away from
-/// zero.
+/// zero; with what is left over. The divisor of the answer is the samples.
 ///
 /// It refuses Value where the difference is past [`DIFFERENCE_LIMIT`](crate::DIFFERENCE_LIMIT)
 /// either way, the samples are not 1 to [`SAMPLES_LIMIT`](crate::SAMPLES_LIMIT) or the rate is not
 /// 1 to [`RATE_LIMIT`](crate::RATE_LIMIT).
-pub fn speed_by_count(difference: i64, samples: u64, rate: u64) -> Result<i64, Refusal> {
+pub fn speed_by_count(difference: i64, samples: u64, rate: u64) -> Result<Speed, Refusal> {
     // The same.
-    unsafe { c::ubrenchip_speed_by_count(difference, samples, rate) }.value()
+    unsafe { c::ubrenchip_speed_by_count(difference, samples, rate) }.speed()
 }
 
 /// Whether a slice of bytes is a saved record, the whole of it.

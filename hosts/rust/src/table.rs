@@ -1,6 +1,6 @@
 //! The table, and the calls on it.
 
-use crate::answers::{Refusal, Sampled, View};
+use crate::answers::{Refusal, Sampled, Speed, View};
 use crate::c;
 
 /// Axes in words that the caller lends: 4n words for n axes, n from 1 to 16.
@@ -120,14 +120,17 @@ impl<'a> Table<'a> {
 
     /// The speed by the time between the last two steps one way, or since the last one if that is
     /// longer, at `rate` samples a second; in thousandths of a count a second, below 0 for back,
-    /// rounded to the nearest and from the middle between two away from zero.
+    /// rounded to the nearest and from the middle between two away from zero; with what is left over.
+    ///
+    /// It is the speed of 1 count, or of -1 for back, over that time, which is the divisor of the
+    /// answer. Time since the last step is counted up to 2^32 - 1 samples.
     ///
     /// It refuses Length, Axis, Broken, Empty, Kind for a counter, Value where the rate is not 1 to
     /// [`RATE_LIMIT`](crate::RATE_LIMIT), and then NoPeriod where there were no two steps one way
     /// since a setup, a turn back or a double step.
-    pub fn speed_by_period(&self, axis: u64, rate: u64) -> Result<i64, Refusal> {
+    pub fn speed_by_period(&self, axis: u64, rate: u64) -> Result<Speed, Refusal> {
         let (table, words) = (self.words.as_ptr(), self.words.len());
-        unsafe { c::ubrenchip_speed_by_period(table, words, axis, rate) }.value()
+        unsafe { c::ubrenchip_speed_by_period(table, words, axis, rate) }.speed()
     }
 
     /// Saves an axis's configuration and position as a record at the front of the buffer, and

@@ -24,6 +24,15 @@ fn samples(table: &mut Table, ports: &[u64]) {
     }
 }
 
+/// A speed that is answered, by all its parts.
+fn speed(number: i64, remainder: i64, divisor: u64) -> Result<Speed, Refusal> {
+    Ok(Speed {
+        number,
+        remainder,
+        divisor,
+    })
+}
+
 /// What the calls that name an axis of a sound row of any kind answer there.
 fn on_any_kind(table: &mut Table, axis: u64) -> [Option<Refusal>; 3] {
     [
@@ -66,20 +75,55 @@ fn widen_takes_the_nearest() {
 
 #[test]
 fn speed_by_count_rounds_halves_away_from_zero() {
-    assert_eq!(speed_by_count(1, 3, 1), Ok(333));
-    assert_eq!(speed_by_count(-1, 2000, 1), Ok(-1));
-    assert_eq!(speed_by_count(1, 2001, 1), Ok(0));
+    assert_eq!(speed_by_count(1, 3, 1), speed(333, 1, 3));
+    assert_eq!(speed_by_count(2, 3, 1), speed(667, -1, 3));
+    assert_eq!(speed_by_count(-2, 3, 1), speed(-667, 1, 3));
+    assert_eq!(speed_by_count(-1, 2000, 1), speed(-1, 1000, 2000));
+    assert_eq!(speed_by_count(1, 2000, 1), speed(1, -1000, 2000));
+    assert_eq!(speed_by_count(1, 2001, 1), speed(0, 1000, 2001));
+    assert_eq!(speed_by_count(-1, 2001, 1), speed(0, -1000, 2001));
     assert_eq!(speed_by_count(1, 0, 1), Err(Refusal::Value));
     let most = 1000 * DIFFERENCE_LIMIT * RATE_LIMIT as i64;
-    assert_eq!(speed_by_count(DIFFERENCE_LIMIT, 1, RATE_LIMIT), Ok(most));
-    assert_eq!(speed_by_count(-DIFFERENCE_LIMIT, 1, RATE_LIMIT), Ok(-most));
-    assert_eq!(speed_by_count(1, SAMPLES_LIMIT, RATE_LIMIT), Ok(0));
+    assert_eq!(
+        speed_by_count(DIFFERENCE_LIMIT, 1, RATE_LIMIT),
+        speed(most, 0, 1)
+    );
+    assert_eq!(
+        speed_by_count(-DIFFERENCE_LIMIT, 1, RATE_LIMIT),
+        speed(-most, 0, 1)
+    );
+    assert_eq!(
+        speed_by_count(1, SAMPLES_LIMIT, RATE_LIMIT),
+        speed(0, 1_000_000_000, SAMPLES_LIMIT)
+    );
+    assert_eq!(
+        speed_by_count(-DIFFERENCE_LIMIT, SAMPLES_LIMIT, RATE_LIMIT),
+        speed(-500_000_000, 500_000_000, SAMPLES_LIMIT)
+    );
     assert_eq!(
         speed_by_count(DIFFERENCE_LIMIT + 1, 1, 1),
         Err(Refusal::Value)
     );
     assert_eq!(speed_by_count(1, SAMPLES_LIMIT + 1, 1), Err(Refusal::Value));
     assert_eq!(speed_by_count(1, 1, RATE_LIMIT + 1), Err(Refusal::Value));
+}
+
+#[test]
+fn numbers_and_remainders_add_up() {
+    for (samples, rate) in [(1, 1), (3, 1), (2000, 1), (16, 999_999), (4_000_000_000, 7)] {
+        let (mut counts, mut numbers, mut remainders) = (0, 0, 0);
+        for difference in -500..1000 {
+            let speed = speed_by_count(difference, samples, rate).unwrap();
+            assert_eq!(speed.divisor, samples);
+            counts += difference;
+            numbers += speed.number;
+            remainders += speed.remainder;
+            assert_eq!(
+                numbers * samples as i64 + remainders,
+                1000 * counts * rate as i64
+            );
+        }
+    }
 }
 
 #[test]
@@ -334,19 +378,36 @@ fn speed_by_period_of_steps_five_samples_apart() {
     let mut table = counting(&mut words);
     assert_eq!(table.speed_by_period(0, 1000), Err(Refusal::NoPeriod));
     samples(&mut table, &[0, 1, 1, 1, 1, 1, 3, 3, 3, 3, 3, 2]);
-    assert_eq!(table.speed_by_period(0, 1000), Ok(200_000));
+    assert_eq!(table.speed_by_period(0, 1000), speed(200_000, 0, 5));
     assert_eq!(table.speed_by_period(0, 0), Err(Refusal::Value));
-    assert_eq!(table.speed_by_period(0, RATE_LIMIT), Ok(200_000_000));
+    assert_eq!(
+        table.speed_by_period(0, RATE_LIMIT),
+        speed(200_000_000, 0, 5)
+    );
     assert_eq!(
         table.speed_by_period(0, RATE_LIMIT + 1),
         Err(Refusal::Value)
     );
     samples(&mut table, &[2; 12]);
-    assert_eq!(table.speed_by_period(0, 1000), Ok(83_333));
+    assert_eq!(table.speed_by_period(0, 1000), speed(83_333, 4, 12));
+    samples(&mut table, &[2; 4]);
+    assert_eq!(table.speed_by_period(0, 1), speed(63, -8, 16));
     assert_eq!(
         counter(&mut words, 0).speed_by_period(0, 1000),
         Err(Refusal::Kind)
     );
+}
+
+#[test]
+fn speed_by_period_backward() {
+    let mut words = [0; 4];
+    let mut table = counting(&mut words);
+    samples(&mut table, &[0, 2, 2, 2, 2, 2, 2, 2, 3]);
+    assert_eq!(table.speed_by_period(0, 1), speed(-143, 1, 7));
+    samples(&mut table, &[3; 16]);
+    assert_eq!(table.speed_by_period(0, 1), speed(-63, 8, 16));
+    samples(&mut table, &[2]);
+    assert_eq!(table.speed_by_period(0, 1), Err(Refusal::NoPeriod));
 }
 
 #[test]

@@ -46,6 +46,7 @@ fn rust_type(name: &str) -> &str {
         "int64_t" => "i64",
         "size_t" => "usize",
         "ubrenchip_answer" => "Answer",
+        "ubrenchip_speed" => "Speed",
         "ubrenchip_sampled" => "Sampled",
         "ubrenchip_viewed" => "Viewed",
         _ => panic!("the header has a type {name}, which is not known here"),
@@ -96,10 +97,10 @@ fn the_structs_are_the_headers() {
         .collect();
     let ours: Vec<_> = between(&declarations, "pub struct ", "}").collect();
     assert_eq!(ours, theirs);
-    assert_eq!(ours.len(), 3);
+    assert_eq!(ours.len(), 4);
     assert_eq!(
         include_str!("../src/c.rs").matches("#[repr(C)]\n").count(),
-        3
+        4
     );
 }
 
