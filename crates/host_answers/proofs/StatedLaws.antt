@@ -7,6 +7,7 @@ use lib.IntN.{ℤ, pos, negsuc}
 use Rattle.refusal.specs.declared.Refusal.the-variants.{Empty, Half, NoPeriod, Room, Layout, Record}
 use Rattle.reckon.specs.declared.Reckoned.the-variants.{Number, Refused as Unreckoned}
 use Rattle.speed.specs.declared.Speed.the-variants.{Of, Refused as Unsped}
+use Rattle.speed.proofs.StatedLaws.{parts}
 use Rattle.record.specs.declared.answer.Tested.the-variants.{Accepted, Refused as Failed}
 use Rattle.record.specs.declared.answer.Written.the-variants.{Bytes, Refused as Unwritten}
 use Rattle.row_calls.specs.declared.answer.Done.the-variants.{Yes, Refused as Undone}
@@ -51,8 +52,8 @@ sped refusal found number remainder divisor =
 
 -- Number, remainder and divisor each in its own place, and 0 in all three on a refusal.
 pub speed-stated : AsStated (
-    (answerSpeed (Of (record { number = negsuc 332; remainder = pos 1; divisor = 3 })) is sped 0 0 (negsuc 332) (pos 1) 3)
-    ∷ (answerSpeed (Of (record { number = pos 7; remainder = negsuc 4; divisor = 4294967295 })) is sped 0 0 (pos 7) (negsuc 4) 4294967295)
+    (answerSpeed (Of (parts (negsuc 332) (pos 1) 3)) is sped 0 0 (negsuc 332) (pos 1) 3)
+    ∷ (answerSpeed (Of (parts (pos 7) (negsuc 4) 4294967295)) is sped 0 0 (pos 7) (negsuc 4) 4294967295)
     ∷ (answerSpeed (Unsped NoPeriod) is sped 9 0 (pos 0) (pos 0) 0)
     ∷ (answerSpeed (Unsped (Layout 9)) is sped 11 9 (pos 0) (pos 0) 0)
     ∷ [])

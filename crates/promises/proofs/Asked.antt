@@ -37,12 +37,12 @@ use Rattle.row_sample.specs.Sample.{stepBy, stepRow}
 use Rattle.row_calls.specs.Calls.{setupRow, placeRow, presetRow, armRow, acknowledgeRow}
 use Rattle.row_calls.specs.Change.{changed}
 use Rattle.row_calls.specs.declared.apply.Change.the-variants.{Setup, Erase, Preset, Arm, Acknowledge}
-use Rattle.row_calls.proofs.StatedLaws.{PRIMED}
 use Rattle.row_view.specs.View.{viewRow}
 use Rattle.row_counter.specs.Reading.{readingRow, storedRow, readRow}
 use Rattle.row_counter.specs.Counter.{UnderHalf, still, polled}
 use Rattle.row_saving.specs.Saving.{restoredBy, restoreRow}
 use Rattle.row_speed.specs.Speed.{speedOf, speedRow}
+use Rattle.row_speed.proofs.StatedLaws.{paced}
 use Rattle.table_rows.specs.Table.{axesIn, rowAt}
 use Rattle.table_rows.specs.Located.{located}
 use Rattle.table_port.specs.Port.{nibble}
@@ -155,9 +155,9 @@ whole-met e k = record {
 
 -- ---- speeds
 
--- A primed x4 axis with a direction, an age and a period.
-abbrev turning : ℕ → ℕ → ℕ → List ℕ
-turning direction age period = (2 ^ 62) ∷ (4 + 1 * 2 ^ 4 + PRIMED + direction * 2 ^ 48) ∷ (age + period * 2 ^ 32) ∷ 0 ∷ []
+-- A table of one row.
+abbrev alone : Row → List ℕ
+alone r = r .w0 ∷ r .w1 ∷ r .w2 ∷ r .w3 ∷ []
 
 -- At rate 1 with the divisor 3: by count of one count and of one back, and by period forward, by the period, and back, by the age.
 pub day-met :
@@ -167,5 +167,5 @@ unfolding rounded divided goodCount goodSpeed speedByCount mostAxes statusOf spe
 day-met =
     next _ _ (by-count 3 refl, refl)
     (next _ _ (by-count 3 refl, refl)
-    (next _ _ (by-period (turning 1 0 3) 0 refl, refl)
-    (next _ _ (by-period (turning 2 3 1) 0 refl, refl) start)))
+    (next _ _ (by-period (alone (paced 1 0 3)) 0 refl, refl)
+    (next _ _ (by-period (alone (paced 2 3 1)) 0 refl, refl) start)))

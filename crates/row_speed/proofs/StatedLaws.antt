@@ -14,7 +14,7 @@ use Rattle.row_calls.proofs.StatedLaws.{_is_, AsStated, words, PRIMED, counter,
 use Rattle.row_speed.specs.Speed.{speedOf, speedRow}
 
 -- A primed x4 row of depth 1 with a direction, an age and a period.
-abbrev paced : ℕ → ℕ → ℕ → Row
+abbrev pub paced : ℕ → ℕ → ℕ → Row
 paced direction age period = words (2 ^ 62) (4 + 1 * 2 ^ 4 + PRIMED + direction * 2 ^ 48) (age + period * 2 ^ 32) 0
 
 -- A speed is 1000 times the rate over the larger of period and age, with the direction's sign: 1 is forward, 2 is back. Refusals are

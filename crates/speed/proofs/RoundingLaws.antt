@@ -2,7 +2,7 @@
 use mathlib.Core.Path.{_≡_, refl, sym, ap, _∙_, subst}
 use mathlib.Core.Logic.{⊎-elim}
 use Prim.Native.Nat.{ℕ, zero, suc, _+_, _*_, _/_, _^_, _≤_, _<_}
-use native.Mathlib.Nat.{div-le-self, div-eq-of-lt-le, mod-lt, div-add-mod', mul-le-mul, mul-le-mul-right}
+use native.Mathlib.Nat.{div-le-self, div-eq-of-lt-le, mod-lt, div-add-mod', mul-pos, mul-le-mul-right}
 use native.Mathlib.Omega.{arith}
 use borrow.Author.Tests.{ltb-true, ltb-false}
 use lib.Dec.{ltb}
@@ -93,14 +93,11 @@ by-number {n} {t} {q} h e =
     let r = left-only (q .number *ℤ pos t) (q .remainder) n (h .exact) ∙ ap (λ (v : ℤ). n -ℤ (v *ℤ pos t)) e in
     λ i. record { number = e i; remainder = r i; divisor = h .over i }
 
--- A product is above 0 exactly where both numbers are.
+-- A product above 0 is of two numbers above 0.
 some-of : (b m : ℕ) → 0 < b * m → (0 < b) × (0 < m)
 some-of zero m h = absurd (let none : ⊥ = omega arith in none)
 some-of (suc b) zero h = absurd (let none : ⊥ = omega arith in none)
 some-of (suc b) (suc m) h = (omega arith, omega arith)
-
-above-of : (b m : ℕ) → 0 < b → 0 < m → 0 < b * m
-above-of b m h k = omega (arith, mul-le-mul {n₁ = 1} {m₁ = 1} {n₂ = b} {m₂ = m} h k)
 
 module _ (a t : ℕ) (some : 0 < t) where
   abbrev q : ℕ
@@ -123,7 +120,7 @@ module _ (a t : ℕ) (some : 0 < t) where
         exact = left-back (pos q *ℤ pos t) (pos a);
         small = ⊎-elim (λ e. omega arith) (λ e. omega arith) (sign r);
         half = λ h. ⊎-elim (λ e. absurd (let none : ⊥ = omega arith in none))
-            (λ e. omega (arith, bal-times q r, above-of q (minus r) (some-of q t (omega arith) .0) (omega arith))) (sign r);
+            (λ e. omega (arith, bal-times q r, mul-pos {m = q} {n = minus r} (some-of q t (omega arith) .0) (omega arith))) (sign r);
       }
 
   -- what divides it lies between these two

@@ -13,10 +13,11 @@ unfoldable pub sumOf : List ℤ → ℤ
 sumOf [] = pos 0
 sumOf (z ∷ zs) = z +ℤ sumOf zs
 
--- The numbers and the remainders of answers.
+-- The numbers of answers.
 abbrev pub numbersOf : List Quotient → List ℤ
 numbersOf qs = map (λ (q : Quotient). q .number) qs
 
+-- Their remainders.
 abbrev pub remaindersOf : List Quotient → List ℤ
 remaindersOf qs = map (λ (q : Quotient). q .remainder) qs
 
