@@ -2,7 +2,7 @@
 use Prim.Native.Nat.{ℕ}
 use Rattle.refusal.specs.declared.Refusal.{Refusal}
 use Rattle.refusal.specs.declared.Refusal.the-variants.{Length, Axis, Broken, Empty, Kind, Value}
-use Rattle.refusal.specs.declared.Refusal.the-variants.{Half, Range, NoPeriod, Room, Layout, Record}
+use Rattle.refusal.specs.declared.Refusal.the-variants.{Half, Range, NoPeriod, Room, Layout, Record, Occupied}
 
 -- The number of each reason.
 abbrev pub numberOf : Refusal → ℕ
@@ -18,6 +18,7 @@ numberOf NoPeriod = 9
 numberOf Room = 10
 numberOf (Layout n) = 11
 numberOf Record = 12
+numberOf Occupied = 13
 
 -- LAYOUT carries the number found; every other reason carries no value, and shows 0.
 abbrev pub foundIn : Refusal → ℕ
@@ -33,3 +34,4 @@ foundIn NoPeriod = 0
 foundIn Room = 0
 foundIn (Layout n) = n
 foundIn Record = 0
+foundIn Occupied = 0

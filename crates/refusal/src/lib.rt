@@ -16,6 +16,7 @@ pub enum Refusal {
     Room,
     Layout(u16),
     Record,
+    Occupied,
 }
 
 // The number of a reason.
@@ -35,6 +36,7 @@ pub fn number(r: Refusal) -> u32
         Refusal::Room => 10,
         Refusal::Layout(_) => 11,
         Refusal::Record => 12,
+        Refusal::Occupied => 13,
     }
 }
 
@@ -55,5 +57,6 @@ pub fn found(r: Refusal) -> u32
         Refusal::Room => 0,
         Refusal::Layout(n) => n as u32,
         Refusal::Record => 0,
+        Refusal::Occupied => 0,
     }
 }

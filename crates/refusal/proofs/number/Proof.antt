@@ -8,6 +8,7 @@ number-spec =
     (tie.spec
     (λ c. search needs) (λ c. search needs) (λ c. search needs) (λ c. search needs) (λ c. search needs) (λ c. search needs)
     (λ c. search needs) (λ c. search needs) (λ c. search needs) (λ c. search needs) (λ c. search needs) (λ c. search needs)
+    (λ c. search needs)
     (λ c. rw (c .enum-told .given .1))
     (λ c. rw (c .enum-told2 .given .1))
     (λ c. rw (c .enum-told3 .given .1))
@@ -19,4 +20,5 @@ number-spec =
     (λ c. rw (c .enum-told9 .given .1))
     (λ c. rw (c .enum-told10 .given .1))
     (λ c. rw (c .enum-told11 .given .1))
-    (λ c. rw (c .enum-told12 .given .1)))
+    (λ c. rw (c .enum-told12 .given .1))
+    (λ c. rw (c .enum-told13 .given .1)))
