@@ -4,7 +4,7 @@ ghost use Rattle.host_change.specs.Making.{MakesToC};
 use host_answers::answer::Answer;
 use host_answers::answer::of_done;
 
-// An axis set up anew: LENGTH, AXIS, VALUE.
+// An axis set up in an empty row: LENGTH, AXIS, OCCUPIED, VALUE.
 #[no_mangle]
 pub extern "C" fn ubrenchip_setup(
     table: &mut [u64],

@@ -14,7 +14,7 @@ pub extern "C" fn ubrenchip_save(table: &[u64], axis: u64, buffer: &mut [u8]) ->
     of_written(table::saving::save(table, axis, buffer))
 }
 
-// The axis that a record says, whatever the row held: LENGTH, AXIS, then the record's own checks in its own order.
+// The axis that a record says, in an empty row: LENGTH, AXIS, then the record's own checks in its own order, OCCUPIED.
 #[no_mangle]
 pub extern "C" fn ubrenchip_restore(table: &mut [u64], axis: u64, slice: &[u8]) -> Answer
     ensures { λ r. ⌜ MakesToC (restoreRow (now (slice .entry))) (now (table .entry)) axis (now (table .exit)) r ⌝ }

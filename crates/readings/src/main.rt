@@ -9,6 +9,7 @@ use table::look::speed;
 use table::reading::reading;
 use table_change::change::arm;
 use table_change::change::preset;
+use table_change::setup::erase;
 use table_change::setup::setup;
 use table_port::sample;
 
@@ -91,11 +92,35 @@ fn paced() -> bool {
 
 // The words of a setup, and a setup past its limits.
 fn set_up() -> bool {
-    let mut table = made(Kind::X4, 3, 0, 4096);
-    say::words(b"setup x4, depth 3, 4096 a turn:", table)
+    let mut empty = [0u64; 4];
+    say::words(
+        b"setup x4, depth 3, 4096 a turn:",
+        made(Kind::X4, 3, 0, 4096),
+    )
         && say::done(
             b"setup x4, depth 9, 4096 a turn: ",
-            setup(&mut table, 0, Kind::X4 as u64, 9, 0, 4096),
+            setup(&mut empty, 0, Kind::X4 as u64, 9, 0, 4096),
+        )
+}
+
+// A table after an erase of its axis.
+fn erased(mut table: [u64; 4]) -> [u64; 4] {
+    erase(&mut table, 0);
+    table
+}
+
+// A setup over a live axis, which comes before its limits, and one after an erase.
+fn set_up_twice() -> bool {
+    let mut table = placed(made(Kind::X4, 3, 0, 4096), -2);
+    let mut freed = erased(table);
+    say::done(
+        b"setup x4, depth 9, over an x4 at -2: ",
+        setup(&mut table, 0, Kind::X4 as u64, 9, 0, 4096),
+    )
+        && say::viewed(b"which leaves it at: ", table)
+        && say::done(
+            b"setup x4, depth 1, after an erase: ",
+            setup(&mut freed, 0, Kind::X4 as u64, 1, 0, 0),
         )
 }
 
@@ -109,7 +134,14 @@ fn saved() -> bool {
 }
 
 fn main() {
-    if !(narrow() && held() && homed() && counted() && paced() && set_up() && saved()) {
+    if !(narrow()
+        && held()
+        && homed()
+        && counted()
+        && paced()
+        && set_up()
+        && set_up_twice()
+        && saved()) {
         os::fail(b"readings: standard output");
     }
 }

@@ -29,6 +29,7 @@ fn reason(e: Refusal) -> bool {
     match e {
         Refusal::Value => text(b"VALUE"),
         Refusal::Room => text(b"ROOM"),
+        Refusal::Occupied => text(b"OCCUPIED"),
         _ => number(refusal::number(e) as i64),
     }
 }

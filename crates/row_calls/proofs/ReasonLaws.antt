@@ -1,4 +1,5 @@
--- The laws of BROKEN, EMPTY and KIND, each answered exactly where the row is so, and of what is answered past them.
+-- The laws of BROKEN, EMPTY and KIND, each answered exactly where the row is so, and of what is answered past them, which is never
+-- OCCUPIED.
 use Prim.Native.Nat.{ℕ}
 use mathlib.Core.Path.{_≡_, refl, sym, ap, _∙_}
 use mathlib.Core.Logic.{_↔_, inl, inr}
@@ -11,7 +12,8 @@ use Rattle.refusal.specs.Refusal.{numberOf}
 use Rattle.refusal.specs.Order.{checked, After}
 use Rattle.refusal.proofs.RefusalLaws.{after-not, after-either}
 use Rattle.refusal.specs.declared.Refusal.{Refusal}
-use Rattle.refusal.specs.declared.Refusal.the-variants.{Broken as BROKEN, Empty as EMPTY, Kind as KIND, Value as VALUE}
+use Rattle.refusal.specs.declared.Refusal.the-variants.{Broken as BROKEN, Empty as EMPTY, Kind as KIND}
+use Rattle.refusal.specs.declared.Refusal.the-variants.{Value as VALUE, Occupied as OCCUPIED}
 use Rattle.axis.specs.Row.{axisOf, rowOf}
 use Rattle.axis_sound.specs.Sound.{statusOf}
 use Rattle.axis.specs.declared.row.Row.{Row}
@@ -28,27 +30,35 @@ use Rattle.row_calls.proofs.StatusLaws.{Live, either-kind}
 other : {B : Type 0} (m n : ℕ) → eqb m n ≡ false → m ≡ n → B
 other m n e h = absurd (eqb-false m n e h)
 
--- Done, or a reason after KIND.
+-- Done, or a reason after OCCUPIED, and so after KIND.
 unfoldable pub Past : ℕ → Type 0
-Past n = After checked KIND n
+Past n = After checked OCCUPIED n
 
--- What a call may answer on a sampled row or a counter: neither BROKEN nor EMPTY, and KIND exactly where the row is of the wrong kind.
+-- What a call may answer on a sampled row or a counter: not BROKEN, EMPTY or OCCUPIED, and KIND exactly where the row is of the wrong kind.
 record Later (n : ℕ) (wrong : Type 0) : Type 0 where
-  full : (n ≡ numberOf BROKEN → ⊥) × (n ≡ numberOf EMPTY → ⊥)
+  full : (n ≡ numberOf BROKEN → ⊥) × (n ≡ numberOf EMPTY → ⊥) × (n ≡ numberOf OCCUPIED → ⊥)
   kind : (n ≡ numberOf KIND) ↔ wrong
 
 -- The row is of the right kind.
 right : {n : ℕ} {wrong : Type 0} → Past n → (wrong → ⊥) → Later n wrong
 unfolding Past
 right p never = record {
-  full = (after-not checked KIND BROKEN (lit≤ tt) p, after-not checked KIND EMPTY (lit≤ tt) p);
-  kind = (λ e. absurd (after-not checked KIND KIND (lit≤ tt) p e), λ w. absurd (never w));
+  full = (
+    after-not checked OCCUPIED BROKEN (lit≤ tt) p,
+    after-not checked OCCUPIED EMPTY (lit≤ tt) p,
+    after-not checked OCCUPIED OCCUPIED (lit≤ tt) p,
+  );
+  kind = (λ e. absurd (after-not checked OCCUPIED KIND (lit≤ tt) p e), λ w. absurd (never w));
 }
 
 -- The row is of the wrong one.
 wrongly : {wrong : Type 0} → wrong → Later (numberOf KIND) wrong
 wrongly w = record {
-  full = (λ e. other (numberOf KIND) (numberOf BROKEN) refl e, λ e. other (numberOf KIND) (numberOf EMPTY) refl e);
+  full = (
+    λ e. other (numberOf KIND) (numberOf BROKEN) refl e,
+    λ e. other (numberOf KIND) (numberOf EMPTY) refl e,
+    λ e. other (numberOf KIND) (numberOf OCCUPIED) refl e,
+  );
   kind = (λ _. w, λ _. refl);
 }
 
@@ -72,21 +82,25 @@ module _ {A : Type 0} (number : A → ℕ) (refuse : Refusal → A) (same : (e :
     broken = (λ _. refl, λ _. same BROKEN);
     empty = (λ h. other (numberOf BROKEN) (numberOf EMPTY) refl (sym (same BROKEN) ∙ h), λ h. absurd (apart Broken Empty refl h));
     kind = (λ h. other (numberOf BROKEN) (numberOf KIND) refl (sym (same BROKEN) ∙ h), λ w. absurd (b w));
+    unoccupied = λ h. other (numberOf BROKEN) (numberOf OCCUPIED) refl (sym (same BROKEN) ∙ h);
   }
   by-reasons wrong b e sampled counter onS onC Empty = record {
     broken = (λ h. other (numberOf EMPTY) (numberOf BROKEN) refl (sym (same EMPTY) ∙ h), λ h. absurd (apart Empty Broken refl h));
     empty = (λ _. refl, λ _. same EMPTY);
     kind = (λ h. other (numberOf EMPTY) (numberOf KIND) refl (sym (same EMPTY) ∙ h), λ w. absurd (e w));
+    unoccupied = λ h. other (numberOf EMPTY) (numberOf OCCUPIED) refl (sym (same EMPTY) ∙ h);
   }
   by-reasons wrong b e sampled counter onS onC Sampled = record {
     broken = (λ h. absurd (onS .full .0 h), λ h. absurd (apart Sampled Broken refl h));
     empty = (λ h. absurd (onS .full .1 h), λ h. absurd (apart Sampled Empty refl h));
     kind = onS .kind;
+    unoccupied = onS .full .2;
   }
   by-reasons wrong b e sampled counter onS onC Counter = record {
     broken = (λ h. absurd (onC .full .0 h), λ h. absurd (apart Counter Broken refl h));
     empty = (λ h. absurd (onC .full .1 h), λ h. absurd (apart Counter Empty refl h));
     kind = onC .kind;
+    unoccupied = onC .full .2;
   }
 
   -- A call on both kinds.
@@ -110,11 +124,11 @@ module _ {A : Type 0} (number : A → ℕ) (refuse : Refusal → A) (same : (e :
       by-reasons (λ s. s ≡ Sampled) (apart Broken Sampled refl) (apart Empty Sampled refl) (refuse KIND) counter
       (rw (same KIND) (wrongly refl)) (right onC (apart Counter Sampled refl))
 
--- ---- what each call may answer past KIND
+-- ---- what each call may answer past OCCUPIED
 
 pub place-past : (p : ℤ) (r : Row) → Past (changedNumber (placeRow p r))
 unfolding Past placeRow
-place-past p r = after-either checked changedNumber KIND (inRange p) _ _ (inl refl) (inr (lit< tt))
+place-past p r = after-either checked changedNumber OCCUPIED (inRange p) _ _ (inl refl) (inr (lit< tt))
 
 -- ---- each call: BROKEN exactly on a broken row, EMPTY exactly on an empty one, and KIND exactly on one of the kind that the call does not
 -- take

@@ -5,7 +5,7 @@ use mathlib.Core.List.{List, [], _∷_, map}
 use lib.IntN.{pos, negsuc}
 use Rattle.position.specs.Position.{inRange, wordOf}
 use Rattle.refusal.specs.declared.Refusal.{Refusal}
-use Rattle.refusal.specs.declared.Refusal.the-variants.{Broken, Empty, Kind, Value, Layout}
+use Rattle.refusal.specs.declared.Refusal.the-variants.{Broken, Empty, Kind, Value, Layout, Occupied}
 use Rattle.axis.specs.Config.{goodConfig}
 use Rattle.axis.specs.declared.row.Row.{Row}
 use Rattle.axis_sound.specs.Sound.{statusOf}
@@ -76,15 +76,24 @@ broken = words 0 0 0 1
 
 -- ---- the calls
 
--- Setup makes 2^62, the configuration and zeros of any row, or is VALUE; erase makes four zero words.
+-- Setup makes 2^62, the configuration and zeros of an empty row, or is VALUE there; where one bit of one word is set, or more, it is
+-- OCCUPIED, whatever its numbers. Erase makes four zero words of any row, and then a setup is accepted.
 pub setup-stated : AsStated (
-    (changeRow (Setup 4 3 0 4096) broken is To (words (2 ^ 62) 52 0 4096))
+    (changeRow (Setup 4 3 0 4096) empty is To (words (2 ^ 62) 52 0 4096))
     ∷ (changeRow (Setup 1 1 0 0) empty is To (words (2 ^ 62) 17 0 0))
-    ∷ (changeRow (Setup 2 8 0 4294967295) (counter 1) is To (words (2 ^ 62) 130 0 4294967295))
-    ∷ (changeRow (Setup 8 0 32 0) (busy 7 PRIMED 300) is To (words (2 ^ 62) 8200 0 0))
-    ∷ (changeRow (Setup 4 9 0 4096) broken is Kept Value)
+    ∷ (changeRow (Setup 2 8 0 4294967295) empty is To (words (2 ^ 62) 130 0 4294967295))
+    ∷ (changeRow (Setup 8 0 32 0) empty is To (words (2 ^ 62) 8200 0 0))
+    ∷ (changeRow (Setup 4 9 0 4096) empty is Kept Value)
+    ∷ (changeRow (Setup 4 3 0 4096) (words 1 0 0 0) is Kept Occupied)
+    ∷ (changeRow (Setup 4 3 0 4096) (words 0 1 0 0) is Kept Occupied)
+    ∷ (changeRow (Setup 4 3 0 4096) (words 0 0 1 0) is Kept Occupied)
+    ∷ (changeRow (Setup 4 3 0 4096) broken is Kept Occupied)
+    ∷ (changeRow (Setup 2 8 0 4294967295) (counter 1) is Kept Occupied)
+    ∷ (changeRow (Setup 8 0 32 0) (busy 7 PRIMED 300) is Kept Occupied)
+    ∷ (changeRow (Setup 4 9 0 4096) (busy 7 PRIMED 300) is Kept Occupied)
     ∷ (changeRow Erase broken is To (words 0 0 0 0))
     ∷ (changeRow Erase (busy 7 PRIMED 300) is To (words 0 0 0 0))
+    ∷ (andThen (changeRow Erase (busy 7 PRIMED 300)) (changeRow (Setup 8 0 32 0)) is To (words (2 ^ 62) 8200 0 0))
     ∷ [])
 unfolding goodConfig setupRow eraseRow
 setup-stated = refl
@@ -125,6 +134,8 @@ pub answer-stated : AsStated (
     ∷ (doneFound (doneOf (To broken)) is 0)
     ∷ (changedNumber (Kept Value) is 6)
     ∷ (doneFound (doneOf (Kept Value)) is 0)
+    ∷ (changedNumber (Kept Occupied) is 13)
+    ∷ (doneFound (doneOf (Kept Occupied)) is 0)
     ∷ (changedNumber (Kept (Layout 7)) is 11)
     ∷ (doneFound (doneOf (Kept (Layout 7))) is 7)
     ∷ [])

@@ -4,10 +4,11 @@ use mathlib.Core.Bool.{cond}
 use lib.IntN.{ℤ}
 use Rattle.position.specs.Position.{inRange}
 use Rattle.refusal.specs.declared.Refusal.{Refusal}
-use Rattle.refusal.specs.declared.Refusal.the-variants.{Broken as BROKEN, Empty as EMPTY, Kind as KIND, Value as VALUE}
+use Rattle.refusal.specs.declared.Refusal.the-variants.{Broken as BROKEN, Empty as EMPTY, Kind as KIND}
+use Rattle.refusal.specs.declared.Refusal.the-variants.{Value as VALUE, Occupied as OCCUPIED}
 use Rattle.axis.specs.Config.{goodConfig}
 use Rattle.axis.specs.Row.{axisOf, rowOf, emptyRow, fresh}
-use Rattle.axis_sound.specs.Sound.{statusOf}
+use Rattle.axis_sound.specs.Sound.{isEmpty, statusOf}
 use Rattle.axis.specs.declared.config.Config.{Config}
 use Rattle.axis.specs.declared.row.Axis.{Axis}
 use Rattle.axis.specs.declared.row.Row.{Row}
@@ -36,18 +37,22 @@ abbrev pub andThen : Changed → (Row → Changed) → Changed
 andThen (To q) next = next q
 andThen (Kept e) next = Kept e
 
--- ---- setup and erase, which take any row
+-- ---- setup, which takes an empty row alone, and erase, which takes any
+
+-- A call that wants an empty row: what it says there, and OCCUPIED of every row that is not four zero words, a broken one too.
+abbrev pub onEmpty : Changed → Row → Changed
+onEmpty say r = cond (isEmpty r) say (Kept OCCUPIED)
 
 -- The configuration of four numbers.
 abbrev pub configOf : ℕ → ℕ → ℕ → ℕ → Config
 configOf kind depth width turn = record { kind = kind; depth = depth; width = width; turn = turn }
 
--- Setup replaces the row, or refuses four numbers that are no configuration.
+-- Setup of an empty row makes the axis there, or refuses four numbers that are no configuration.
 unfoldable pub setupRow : ℕ → ℕ → ℕ → ℕ → Row → Changed
-setupRow kind depth width turn r =
-    cond (goodConfig kind depth width turn) (To (rowOf (fresh (configOf kind depth width turn)))) (Kept VALUE)
+setupRow kind depth width turn =
+    onEmpty (cond (goodConfig kind depth width turn) (To (rowOf (fresh (configOf kind depth width turn)))) (Kept VALUE))
 
--- Erase writes four zero words.
+-- Erase writes four zero words, whatever the row held.
 unfoldable pub eraseRow : Row → Changed
 eraseRow r = To emptyRow
 

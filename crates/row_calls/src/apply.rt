@@ -23,7 +23,7 @@ pub fn apply(r: Row, change: Change) -> Changed
     ensures { λ c. ⌜ c ≡ changeRow change r ⌝ }
 {
     match change {
-        Change::Setup(kind, depth, width, turn) => setup(kind, depth, width, turn),
+        Change::Setup(kind, depth, width, turn) => setup(r, kind, depth, width, turn),
         Change::Erase => erase(),
         Change::Preset(position) => preset(r, position),
         Change::Arm => arm(r),

@@ -1,4 +1,4 @@
-// Setup and erase, which take any row.
+// Setup, which takes an empty row alone, and erase, which takes any.
 ghost use mathlib.Core.Path.{_≡_};
 ghost use mathlib.Core.Bool.{true};
 ghost use Rattle.axis.specs.Config.{goodConfig};
@@ -9,6 +9,7 @@ use axis::config::is_good;
 use axis::row::Axis;
 use axis::row::Row;
 use axis_packing::pack::pack;
+use axis_sound::is_empty;
 use refusal::Refusal;
 
 // Four plain numbers within their limits, as a configuration.
@@ -24,10 +25,13 @@ fn config_of(kind: u64, depth: u64, width: u64, turn: u64) -> Config
     }
 }
 
-// An axis set up anew.
-pub fn setup(kind: u64, depth: u64, width: u64, turn: u64) -> Changed
-    ensures { λ c. ⌜ ((r : Row) → c ≡ setupRow kind depth width turn r) ⌝ }
+// An axis set up in an empty row.
+pub fn setup(r: Row, kind: u64, depth: u64, width: u64, turn: u64) -> Changed
+    ensures { λ c. ⌜ c ≡ setupRow kind depth width turn r ⌝ }
 {
+    if !is_empty(r) {
+        return Changed::Kept(Refusal::Occupied);
+    }
     if !is_good(kind, depth, width, turn) {
         return Changed::Kept(Refusal::Value);
     }

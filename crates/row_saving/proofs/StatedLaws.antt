@@ -4,7 +4,7 @@ use mathlib.Core.Path.{refl}
 use mathlib.Core.List.{List, [], _∷_, _++_}
 use lib.ListN.{replicate}
 use Rattle.position.specs.Position.{inRange, wordOf, positionOf}
-use Rattle.refusal.specs.declared.Refusal.the-variants.{Broken, Empty, Value, Room, Layout, Record}
+use Rattle.refusal.specs.declared.Refusal.the-variants.{Broken, Empty, Value, Room, Layout, Record, Occupied}
 use Rattle.axis.specs.Config.{goodConfig}
 use Rattle.axis.specs.declared.row.Row.{Row}
 use Rattle.axis_sound.specs.Sound.{statusOf}
@@ -58,13 +58,20 @@ pub bytes-stated : AsStated (
 unfolding positionOf inRange goodConfig statusOf bytesOf fieldBytes frontBytes settingBytes axisBytes withinLimits recordOf written savedIn
 bytes-stated = refl
 
--- A restore makes of any row the record's configuration at its position and zeros besides, or is refused for the record's own reason.
+-- A restore makes of an empty row the record's configuration at its position and zeros besides; a record that is refused is so on every
+-- row, for its own reason; and one that is accepted is OCCUPIED where one bit of one word is set, or more.
 pub restore-stated : (r : Row) → AsStated (
-    (restoreRow sampled r is To (words (2 ^ 62 - 2) 52 0 4096))
-    ∷ (restoreRow narrow r is To (counter (2 ^ 62 + 250)))
+    (restoreRow sampled empty is To (words (2 ^ 62 - 2) 52 0 4096))
+    ∷ (restoreRow narrow empty is To (counter (2 ^ 62 + 250)))
     ∷ (restoreRow (1 ∷ 0 ∷ 2 ∷ 0 ∷ 7 ∷ []) r is Kept (Layout 7))
     ∷ (restoreRow (1 ∷ 0 ∷ 2 ∷ 0 ∷ 1 ∷ 2 ∷ 0 ∷ 1 ∷ 3 ∷ []) r is Kept Value)
     ∷ (restoreRow (1 ∷ 0 ∷ 2 ∷ 0 ∷ 1 ∷ 2 ∷ 0 ∷ 1 ∷ 4 ∷ []) r is Kept Record)
+    ∷ (restoreRow sampled axle is Kept Occupied)
+    ∷ (restoreRow narrow (counter (2 ^ 62 + 250)) is Kept Occupied)
+    ∷ (restoreRow narrow (words 1 0 0 0) is Kept Occupied)
+    ∷ (restoreRow narrow (words 0 1 0 0) is Kept Occupied)
+    ∷ (restoreRow narrow (words 0 0 1 0) is Kept Occupied)
+    ∷ (restoreRow narrow broken is Kept Occupied)
     ∷ [])
 unfolding inRange wordOf goodConfig numberFrom starts fieldAt counterAt sampledAt axisAt withinLimits layoutRefusal endedAt readAs
     restoredBy restoreRow

@@ -1,5 +1,6 @@
 -- Save and restore, on a row: docs/RULES.md, "The saved record".
 use Prim.Native.Nat.{ℕ}
+use mathlib.Core.Bool.{Bool, true, false}
 use mathlib.Core.List.{List}
 use Rattle.position.specs.Position.{wordOf, positionOf}
 use Rattle.axis.specs.Row.{axisOf, rowOf, freshAt}
@@ -12,7 +13,7 @@ use Rattle.record.specs.declared.answer.Read.{Read}
 use Rattle.record.specs.declared.answer.Read.the-variants.{Accepted, Refused as Unread}
 use Rattle.record.specs.declared.answer.Written.{Written}
 use Rattle.record.specs.declared.answer.Written.the-variants.{Refused as Unwritten}
-use Rattle.row_calls.specs.Calls.{byStatus}
+use Rattle.row_calls.specs.Calls.{byStatus, onEmpty}
 use Rattle.row_calls.specs.declared.answer.Changed.{Changed}
 use Rattle.row_calls.specs.declared.answer.Changed.the-variants.{To, Kept}
 
@@ -28,11 +29,20 @@ saveRow room r = byStatus Unwritten (savedAs room (savedOf (axisOf r))) (savedAs
 unfoldable pub savedIn : List ℕ → Row → List ℕ
 savedIn buf r = byStatus (λ _. buf) (written buf (savedOf (axisOf r))) (written buf (savedOf (axisOf r))) (statusOf r)
 
--- What a record that was read makes of any row: its configuration at its position, all else 0.
-unfoldable pub restoredBy : Read → Changed
-restoredBy (Accepted s) = To (rowOf (freshAt (s .config) (wordOf (s .position))))
-restoredBy (Unread e) = Kept e
+-- Whether a record is accepted.
+abbrev pub isRead : Read → Bool
+isRead (Accepted s) = true
+isRead (Unread e) = false
 
--- Restore, which takes any row.
+-- The row that a record says: its configuration at its position, all else 0.
+abbrev pub saidRow : Saved → Row
+saidRow s = rowOf (freshAt (s .config) (wordOf (s .position)))
+
+-- What a record makes of a row: its own refusal comes first, and then it wants an empty row.
+unfoldable pub restoredBy : Read → Row → Changed
+restoredBy (Accepted s) r = onEmpty (To (saidRow s)) r
+restoredBy (Unread e) r = Kept e
+
+-- Restore, by what the record's reader says.
 unfoldable pub restoreRow : List ℕ → Row → Changed
-restoreRow slice r = restoredBy (readAs slice)
+restoreRow slice r = restoredBy (readAs slice) r

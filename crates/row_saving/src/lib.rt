@@ -1,13 +1,17 @@
 // Save and restore.
 ghost use mathlib.Core.Path.{_≡_};
+ghost use mathlib.Core.Bool.{true};
 ghost use lib.ListN.{length};
 ghost use Rattle.position.specs.Position.{Word};
-ghost use Rattle.row_saving.specs.Saving.{savedOf, saveRow, savedIn, restoreRow};
+ghost use Rattle.record_axis.specs.Limits.{withinLimits};
+ghost use Rattle.row_calls.specs.Calls.{onEmpty};
+ghost use Rattle.row_saving.specs.Saving.{savedOf, saveRow, savedIn, saidRow, restoreRow};
 use axis::row::Axis;
 use axis::row::Row;
 use axis_open::open;
 use axis_packing::pack::pack;
 use axis_sound::Status;
+use axis_sound::is_empty;
 use record::answer::Read;
 use record::answer::Written;
 use record_axis::saved::Saved;
@@ -41,16 +45,25 @@ pub fn save(r: Row, buf: &mut [u8]) -> Written
     }
 }
 
-// Restore: the axis that a record says, as setup and then preset would leave it.
-pub fn restore(slice: &[u8]) -> Changed
-    ensures { λ c. ⌜ ((r : Row) → c ≡ restoreRow (now (slice .entry)) r) ⌝ }
+// The axis that a record says, in an empty row, as setup and then preset would leave it.
+fn put_in(r: Row, saved: Saved) -> Changed
+    requires { ⌜ withinLimits saved ≡ true ⌝ }
+    ensures { λ c. ⌜ c ≡ onEmpty (Changed.To (saidRow saved)) r ⌝ }
+{
+    if !is_empty(r) {
+        return Changed::Kept(Refusal::Occupied);
+    }
+    let config = saved.config;
+    let word = position::word_of(saved.position);
+    Changed::To(pack(Axis::setup_at(config, word)))
+}
+
+// Restore: the record is read to its end before the row is looked at.
+pub fn restore(r: Row, slice: &[u8]) -> Changed
+    ensures { λ c. ⌜ c ≡ restoreRow (now (slice .entry)) r ⌝ }
 {
     match record::reader::read(slice) {
         Read::Refused(e) => Changed::Kept(e),
-        Read::Accepted(saved) => {
-            let config = saved.config;
-            let word = position::word_of(saved.position);
-            Changed::To(pack(Axis::setup_at(config, word)))
-        }
+        Read::Accepted(saved) => put_in(r, saved),
     }
 }

@@ -1,35 +1,39 @@
 -- The order of the reasons in a restore, a view, a reading, a speed by period and a save: docs/RULES.md, "Reasons for saying no".
-use Prim.Native.Nat.{ℕ}
-use mathlib.Core.Path.{refl}
-use mathlib.Core.Logic.{_≢_, inl, inr}
+use Prim.Native.Nat.{ℕ, _<_}
+use mathlib.Core.Path.{_≡_, refl}
+use mathlib.Core.Logic.{_≢_, _⊎_, inl, inr}
 use mathlib.Core.List.{List}
-use lib.Dec.{lit<}
+use lib.Dec.{lit<, lit≤}
 use Rattle.position.specs.Position.{positionOf}
 use Rattle.refusal.specs.Refusal.{numberOf}
-use Rattle.refusal.specs.Order.{checked, After}
-use Rattle.refusal.specs.declared.Refusal.the-variants.{Axis, Broken as BROKEN, Empty as EMPTY, Kind as KIND}
+use Rattle.refusal.specs.Order.{checked, restoring, placeIn, After, ByThen}
+use Rattle.refusal.proofs.RefusalLaws.{after-either}
+use Rattle.refusal.specs.declared.Refusal.{Refusal}
+use Rattle.refusal.specs.declared.Refusal.the-variants.{Axis, Broken as BROKEN, Empty as EMPTY, Kind as KIND, Value as VALUE}
+use Rattle.refusal.specs.declared.Refusal.the-variants.{Layout, Record, Occupied as OCCUPIED}
 use Rattle.reckon.specs.Reckoned.{refusalIn}
 use Rattle.reckon.specs.declared.Reckoned.the-variants.{Refused as Unreckoned}
 use Rattle.speed.specs.Speed.{speedRefusal}
 use Rattle.speed.specs.declared.Speed.the-variants.{Refused as Unsped}
 use Rattle.axis.specs.Row.{axisOf}
-use Rattle.axis_sound.specs.Sound.{statusOf}
+use Rattle.axis_sound.specs.Sound.{isEmpty, statusOf}
+use Rattle.axis_sound.specs.declared.Status.the-variants.{Empty}
 use Rattle.axis.specs.declared.row.Row.{Row}
 use Rattle.record.specs.Answer.{writtenNumber}
-use Rattle.record.specs.Order.{Judged, other-layout, bad-nine, bad-kind, bad-rest, bad-value, all-good}
 use Rattle.record.specs.Record.{readAs}
 use Rattle.record.specs.declared.answer.Read.{Read}
+use Rattle.record.specs.declared.answer.Read.the-variants.{Accepted, Refused as Unread}
 use Rattle.record.specs.declared.answer.Written.the-variants.{Refused as Unwritten}
-use Rattle.record.proofs.OrderLaws.{exactly}
 use Rattle.row_calls.specs.Answer.{doneOf, doneNumber, changedNumber}
 use Rattle.row_view.specs.View.{viewNumber, viewRow}
-use Rattle.row_saving.specs.Saving.{savedOf, saveRow, restoreRow, restoredBy}
+use Rattle.row_saving.specs.Saving.{savedOf, saidRow, saveRow, restoreRow, restoredBy}
 use Rattle.row_speed.specs.Speed.{speedRow}
 use Rattle.row_counter.specs.Reading.{readingRow}
+use Rattle.row_calls.specs.declared.answer.Changed.the-variants.{To, Kept}
 use Rattle.row_calls.specs.declared.answer.Done.{Done}
 use Rattle.row_view.specs.declared.answer.Viewed.the-variants.{Refused as Unseen}
 use Rattle.row_speed.proofs.SpeedLaws.{speed-past}
-use Rattle.row_saving.proofs.SaveLaws.{save-past}
+use Rattle.row_saving.proofs.SaveLaws.{restore-refused, unread-number, restore-occupied, save-past}
 use Rattle.row_counter.proofs.ReadingLaws.{reading-past}
 use Rattle.table_change.specs.Making.{Makes}
 use Rattle.table.specs.Call.{viewedIn, readIn, speedIn, saveIn}
@@ -38,18 +42,38 @@ use Rattle.table_change.proofs.OrderLaws.{in-order, by-status, late, any-ordere
 
 -- ---- each call's own reasons
 
+-- A restore answers that it was done, VALUE, LAYOUT, RECORD or OCCUPIED, and comes after what these come after, in any order.
+restore-after : (order : List Refusal) (e : Refusal) → After order e (numberOf VALUE) → After order e (numberOf (Layout 0)) →
+    After order e (numberOf Record) → After order e (numberOf OCCUPIED) → (s : List ℕ) (r : Row) →
+    After order e (changedNumber (restoreRow s r))
+unfolding restoreRow restoredBy
+restore-after order e value layout shape full s r = go (readAs s) refl
+  where
+    go : (a : Read) → readAs s ≡ a → After order e (changedNumber (restoredBy a r))
+    go (Accepted said) h = after-either order changedNumber e (isEmpty r) (To (saidRow said)) (Kept OCCUPIED) (inl refl) full
+    go (Unread f) h = unread-number (After order e) value layout shape s f h
+
 -- Every number that a row's own rule answers is done or comes after AXIS; of restore it comes after KIND.
 pub restore-late : (s : List ℕ) (r : Row) → After checked KIND (changedNumber (restoreRow s r))
-unfolding restoreRow restoredBy
-restore-late s r = go (readAs s) (exactly s (readAs s) .0 refl)
+restore-late = restore-after checked KIND (inr (lit< tt)) (inr (lit< tt)) (inr (lit< tt)) (inr (lit< tt))
+
+-- A restore of a record that is refused gives that reason, after which OCCUPIED comes in its order, and a restore of a row that is not
+-- empty is refused by OCCUPIED at the latest.
+pub restore-in-turn : (s : List ℕ) (r : Row) →
+    ((e : Refusal) → readAs s ≡ Unread e → (restoreRow s r ≡ Kept e) × After restoring e (numberOf OCCUPIED))
+    × ((statusOf r ≡ Empty → ⊥) → ByThen restoring OCCUPIED (changedNumber (restoreRow s r)))
+restore-in-turn s r = (
+  λ e h. (restore-refused s e r h, unread-number Earlier (inr (lit< tt)) (inr (lit< tt)) (inr (lit< tt)) s e h),
+  λ full. go full (readAs s) refl,
+)
   where
-    go : (a : Read) → Judged s a → After checked KIND (changedNumber (restoredBy a))
-    go a (other-layout o e) = rw e (inr (lit< tt))
-    go a (bad-nine o n e) = rw e (inr (lit< tt))
-    go a (bad-kind n k e) = rw e (inr (lit< tt))
-    go a (bad-rest n k l e) = rw e (inr (lit< tt))
-    go a (bad-value n k l v e) = rw e (inr (lit< tt))
-    go a (all-good n k l v e) = rw e (inl refl)
+    Earlier : ℕ → Type 0
+    Earlier n = (numberOf OCCUPIED ≡ 0) ⊎ (placeIn restoring n < placeIn restoring (numberOf OCCUPIED))
+
+    go : (statusOf r ≡ Empty → ⊥) → (a : Read) → readAs s ≡ a → ByThen restoring OCCUPIED (changedNumber (restoreRow s r))
+    go full (Accepted said) h = rw (restore-occupied s r .1 (rw h, full)) (lit≤ tt)
+    go full (Unread e) h =
+        rw (restore-refused s e r h) (unread-number (ByThen restoring OCCUPIED) (lit≤ tt) (lit≤ tt) (lit≤ tt) s e h)
 
 pub view-late : (r : Row) → After checked Axis (viewNumber (viewRow r))
 unfolding viewRow
@@ -75,7 +99,7 @@ save-late room r =
 
 -- ---- the calls
 
--- Restore says LENGTH, then AXIS, then its record's reasons in their own order, and never BROKEN or EMPTY.
+-- Restore says LENGTH, then AXIS, then its record's reasons in their own order, then OCCUPIED, and never BROKEN or EMPTY.
 pub restore-ordered : (s : List ℕ) {t u : List ℕ} {k : ℕ} {a : Done} → Makes (restoreRow s) t k u a →
     Ordered doneNumber (λ r. doneOf (restoreRow s r)) t k a × ((doneNumber a ≢ numberOf BROKEN) × (doneNumber a ≢ numberOf EMPTY))
 restore-ordered s w = any-ordered _ w (restore-late s)

@@ -20,5 +20,5 @@ pub restore-made : (s : List ℕ) → Made (restoreRow s)
 restore-made s r q e = go (readAs s) refl
   where
     go : (a : Read) → readAs s ≡ a → Words q
-    go (Accepted said) h = restore-makes s said r q h e .words
+    go (Accepted said) h = restore-makes s said r h q e .words
     go (Unread f) h = absurd (let w = restore-refused s f r h in let z : _≡_ {A = ℕ} 0 1 = cc in omega arith)

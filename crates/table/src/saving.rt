@@ -18,12 +18,12 @@ pub fn save(table: &[u64], axis: u64, buf: &mut [u8]) -> Written
     }
 }
 
-// The axis that a record says, whatever the row held: LENGTH, AXIS, then the record's own checks in its own order.
+// The axis that a record says, in an empty row: LENGTH, AXIS, then the record's own checks in its own order, OCCUPIED.
 pub fn restore(table: &mut [u64], axis: u64, slice: &[u8]) -> Done
     ensures { λ r. ⌜ Makes (restoreRow (now (slice .entry))) (now (table .entry)) axis (now (table .exit)) r ⌝ }
 {
     match locate(table, axis) {
         Located::Refused(e) => Done::Refused(e),
-        Located::At(_) => commit(table, axis, row_saving::restore(slice)),
+        Located::At(row) => commit(table, axis, row_saving::restore(row, slice)),
     }
 }

@@ -11,13 +11,14 @@ use lib.IntN.{ℤ}
 use lib.ListN.{length}
 use borrow.Author.Tests.{eqb-true, eqb-false, ltb-true, ltb-false}
 use Rattle.refusal.specs.Refusal.{numberOf}
-use Rattle.refusal.specs.Order.{checked, placeIn, After}
+use Rattle.refusal.specs.Order.{checked, placeIn, After, ByThen}
 use Rattle.refusal.proofs.RefusalLaws.{after-not, after-sooner, after-either}
 use Rattle.refusal.specs.declared.Refusal.{Refusal}
 use Rattle.refusal.specs.declared.Refusal.the-variants.{Length, Axis, Broken as BROKEN, Empty as EMPTY, Kind as KIND}
+use Rattle.refusal.specs.declared.Refusal.the-variants.{Value as VALUE, Occupied as OCCUPIED}
 use Rattle.axis.specs.Limit.{mostAxes}
 use Rattle.axis.specs.Config.{goodConfig}
-use Rattle.axis_sound.specs.Sound.{statusOf}
+use Rattle.axis_sound.specs.Sound.{isEmpty, statusOf}
 use Rattle.axis.specs.declared.row.Row.{Row}
 use Rattle.axis_sound.specs.declared.Status.{Status}
 use Rattle.axis_sound.specs.declared.Status.the-variants.{Empty, Sampled, Counter, Broken}
@@ -27,6 +28,7 @@ use Rattle.row_calls.specs.declared.answer.Changed.{Changed}
 use Rattle.row_calls.specs.declared.answer.Changed.the-variants.{Kept}
 use Rattle.row_calls.specs.declared.answer.Done.{Done}
 use Rattle.row_calls.proofs.ReasonLaws.{Past, place-past}
+use Rattle.row_calls.proofs.SetupLaws.{setup-occupied}
 use Rattle.table_rows.specs.Table.{axesIn, rowAt}
 use Rattle.table_rows.specs.Located.{located, onFound}
 use Rattle.table_change.specs.Making.{Makes}
@@ -86,7 +88,7 @@ module _ {A : Type 0} (number : A → ℕ) (refuse : Refusal → A) (same : (e :
   pub in-order : ((r : Row) → After checked Axis (number (say r))) → Ordered number say t k (onFound refuse say (located t k))
   in-order = by-order checked (lit≤ tt)
 
-  -- A call that takes any row is never refused as BROKEN or EMPTY.
+  -- A call that asks for no axis in the row is never refused as BROKEN or EMPTY.
   pub any-row : ((r : Row) → After checked EMPTY (number (say r))) →
       (number (onFound refuse say (located t k)) ≢ numberOf BROKEN) × (number (onFound refuse say (located t k)) ≢ numberOf EMPTY)
   any-row late = (never BROKEN (lit≤ tt) (λ e. omega arith) (λ e. omega arith), never EMPTY (lit≤ tt) (λ e. omega arith) (λ e. omega arith))
@@ -127,15 +129,31 @@ by-status number refuse same a b x y Empty = inr (rw (same EMPTY) (lit< tt))
 by-status number refuse same a b x y Sampled = x
 by-status number refuse same a b x y Counter = y
 
--- What comes after KIND comes after AXIS.
+-- What comes after OCCUPIED comes after AXIS.
 pub late : {n : ℕ} → Past n → After checked Axis n
 unfolding Past
-late = after-sooner checked KIND Axis (lit≤ tt)
+late = after-sooner checked OCCUPIED Axis (lit≤ tt)
 
 -- Every number that a row's own rule answers is done or comes after AXIS; of setup and erase it comes after KIND.
 pub setup-late : (kind depth width turn : ℕ) (r : Row) → After checked KIND (changedNumber (setupRow kind depth width turn r))
 unfolding setupRow
-setup-late kind depth width turn r = either changedNumber KIND (goodConfig kind depth width turn) _ _ (inl refl) (inr (lit< tt))
+setup-late kind depth width turn r =
+    let told = either changedNumber KIND (goodConfig kind depth width turn) _ _ (inl refl) (inr (lit< tt)) in
+    either changedNumber KIND (isEmpty r) _ _ told (inr (lit< tt))
+
+-- A setup of a row that is not empty is refused by OCCUPIED at the latest, and one with numbers that are no configuration by VALUE.
+pub setup-in-turn : (kind depth width turn : ℕ) (r : Row) →
+    ((statusOf r ≡ Empty → ⊥) → ByThen checked OCCUPIED (changedNumber (setupRow kind depth width turn r)))
+    × (goodConfig kind depth width turn ≡ false → ByThen checked VALUE (changedNumber (setupRow kind depth width turn r)))
+unfolding setupRow
+setup-in-turn kind depth width turn r = (
+  λ full. rw (setup-occupied kind depth width turn r .1 full) (lit≤ tt),
+  λ bad. rw bad (go (isEmpty r)),
+)
+  where
+    go : (b : Bool) → ByThen checked VALUE (changedNumber (cond b (Kept VALUE) (Kept OCCUPIED)))
+    go true = lit≤ tt
+    go false = lit≤ tt
 
 pub erase-late : (r : Row) → After checked KIND (changedNumber (eraseRow r))
 unfolding eraseRow
@@ -161,7 +179,7 @@ module _ (rule : Row → Changed) {t u : List ℕ} {k : ℕ} {a : Done} (w : Mak
       let o = in-order changedNumber Kept (λ e. refl) rule t k late in
       rw (w .answer) (record { slice = o .slice; named = o .named; own = λ h. ap doneOf (o .own h) })
 
-  -- A call that takes any row.
+  -- A call that asks for no axis in the row.
   pub any-ordered : ((r : Row) → After checked KIND (changedNumber (rule r))) →
       Ordered doneNumber (λ r. doneOf (rule r)) t k a × ((doneNumber a ≢ numberOf BROKEN) × (doneNumber a ≢ numberOf EMPTY))
   any-ordered later = (

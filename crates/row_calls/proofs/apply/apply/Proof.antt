@@ -6,7 +6,7 @@ use Rattle.row_calls.proofs.apply.apply.Statement.{statement}
 use Rattle.row_calls.proofs.apply.apply.Tie as tie
 
 returns : tie.Need-returns
-returns c = rw (c .before .before .change .given .1) (c .setup .ensures _)
+returns c = rw (c .before .before .change .given .1) (c .setup .ensures)
 
 returns-2 : tie.Need-returns-2
 returns-2 c = rw (c .before .enum-told .given .1) (c .erase .ensures _)
