@@ -13,7 +13,7 @@ use Rattle.axis.specs.Row.{axisOf, Words}
 use Rattle.axis_sound.specs.Sound.{statusOf}
 use Rattle.axis.specs.declared.row.Axis.{Axis}
 use Rattle.axis.specs.declared.row.Row.{Row}
-use Rattle.axis_sound.specs.declared.Status.the-variants.{Counter}
+use Rattle.axis_sound.specs.declared.Status.the-variants.{Empty, Counter}
 use Rattle.row_sample.specs.declared.SteppedRow.{SteppedRow}
 use Rattle.row_sample.proofs.SampleLaws.{counter-stays}
 use Rattle.record.specs.Record.{readAs}
@@ -33,21 +33,23 @@ use Rattle.runs.proofs.CallLaws.{refused-after}
 use Rattle.history.specs.Phase.{phaseOf, afterEvent, afterChange, afterCall}
 use Rattle.history.specs.Counter.{Aside, CounterReads, none, read, between, refusing}
 use Rattle.history.proofs.EventLaws.{reading-told, tells}
-use Rattle.history.proofs.RowHistory.{phase-lawful, status-history, counter-history}
+use Rattle.history.proofs.RowHistory.{phase-lawful, status-history, empty-history, counter-history}
 
 -- ---- the place of a phase
 
--- A setup that is accepted puts the place to 0.
-pub place-setup : (r : Row) (h : List Event) (kind depth width turn : ℕ) → goodConfig kind depth width turn ≡ true →
-    phaseOf r (asked (changes (Setup kind depth width turn)) ∷ h) .place ≡ pos 0
-unfolding phaseOf afterEvent afterCall afterChange positionOf
-place-setup r h kind depth width turn good = rw good
+module _ {r : Row} (words : Words r) (h : List Event) (empty : statusOf (rowSince r h) ≡ Empty) where
+  -- A setup that is accepted puts the place to 0.
+  pub place-setup : (kind depth width turn : ℕ) → goodConfig kind depth width turn ≡ true →
+      phaseOf r (asked (changes (Setup kind depth width turn)) ∷ h) .place ≡ pos 0
+  unfolding phaseOf afterEvent afterCall afterChange positionOf
+  place-setup kind depth width turn good = rw (empty-history words h empty, good)
 
--- A restore that is accepted puts the place to the position saved.
-pub place-restore : (r : Row) (h : List Event) (bytes : List ℕ) (s : Saved) → readAs bytes ≡ Accepted s →
-    phaseOf r (asked (restore bytes) ∷ h) .place ≡ s .position
-unfolding phaseOf afterEvent afterCall afterChange
-place-restore r h bytes s e = rw e (position-word (s .position) (within-parts s (accepted-within bytes s e) .1))
+  -- A restore that is accepted puts the place to the position saved.
+  pub place-restore : (bytes : List ℕ) (s : Saved) → readAs bytes ≡ Accepted s →
+      phaseOf r (asked (restore bytes) ∷ h) .place ≡ s .position
+  unfolding phaseOf afterEvent afterCall afterChange
+  place-restore bytes s e =
+      rw (e, empty-history words h empty) (position-word (s .position) (within-parts s (accepted-within bytes s e) .1))
 
 module _ {r : Row} (words : Words r) (h : List Event) (counter : statusOf (rowSince r h) ≡ Counter) where
   first : statusOf (phaseOf r h .start) ≡ Counter

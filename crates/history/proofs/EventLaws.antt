@@ -1,26 +1,27 @@
 -- One event more: a row and the phase that tells it stay together.
 use mathlib.Core.Path.{_≡_, refl, sym, _∙_, ap, subst}
-use mathlib.Core.Bool.{Bool, true, false, cond}
+use mathlib.Core.Bool.{Bool, true, false, cond, true≢false}
 use mathlib.Core.List.{List, [], _∷_}
 use Prim.Native.Nat.{ℕ}
 use native.Mathlib.Omega.{arith}
 use lib.IntN.{ℤ, pos}
+use Rattle.integers.proofs.Balance.{Decided, yes, no, test}
 use Rattle.position.specs.Position.{inRange, wordOf}
 use Rattle.position.proofs.PositionLaws.{word-position, position-word, position-in-range}
 use Rattle.refusal.specs.declared.Refusal.{Refusal}
-use Rattle.refusal.specs.declared.Refusal.the-variants.{Kind as KIND}
+use Rattle.refusal.specs.declared.Refusal.the-variants.{Kind as KIND, Occupied as OCCUPIED}
 use Rattle.reckon.specs.Widening.{widened}
 use Rattle.reckon.specs.declared.Reckoned.{Reckoned}
 use Rattle.reckon.specs.declared.Reckoned.the-variants.{Number, Refused as Unreckoned}
 use Rattle.reckon.proofs.NearestLaws.{nearest}
 use Rattle.axis.specs.Config.{goodConfig}
 use Rattle.axis.specs.Row.{axisOf, word1Of, word2Of, rowOf, Words}
-use Rattle.axis_sound.specs.Sound.{statusOf}
+use Rattle.axis_sound.specs.Sound.{isEmpty, statusOf, passes}
 use Rattle.axis.specs.declared.row.Axis.{Axis}
 use Rattle.axis.specs.declared.row.Row.{Row}
 use Rattle.axis_sound.specs.declared.Status.{Status}
 use Rattle.axis_sound.specs.declared.Status.the-variants.{Empty, Sampled, Counter, Broken}
-use Rattle.axis_sound.proofs.SoundLaws.{counter-gives, packed-again}
+use Rattle.axis_sound.proofs.SoundLaws.{status-exactly, counter-gives, packed-again}
 use Rattle.axis_filter.specs.Lines.{rawOf}
 use Rattle.row_sample.specs.Sample.{stepBy, stepRow}
 use Rattle.record.specs.Record.{readAs}
@@ -30,8 +31,10 @@ use Rattle.record_axis.proofs.LimitsLaws.{within-parts}
 use Rattle.record.proofs.RecordLaws.{accepted-within}
 use Rattle.row_calls.specs.Change.{changed}
 use Rattle.row_counter.specs.Reading.{readAxis, readingOf, readingRow, storedRow, readRow}
-use Rattle.row_calls.specs.Calls.{byStatus, leftBy, configOf, changeRow, setupRow, eraseRow, placeRow, presetRow, armRow, acknowledgeRow}
-use Rattle.row_saving.specs.Saving.{restoredBy, restoreRow}
+use Rattle.row_calls.specs.Calls.{byStatus, leftBy, onEmpty, configOf, changeRow, setupRow, eraseRow, placeRow, presetRow, armRow}
+use Rattle.row_calls.specs.Calls.{acknowledgeRow}
+use Rattle.row_saving.specs.Saving.{saidRow, restoredBy, restoreRow}
+use Rattle.row_calls.specs.declared.answer.Changed.{Changed}
 use Rattle.row_calls.specs.declared.answer.Changed.the-variants.{To, Kept}
 use Rattle.history_axis.specs.Acts.{Act, act, sampled, Allowed}
 use Rattle.history_axis.specs.Acts.{preset as placed, arm as armed, acknowledge as acknowledged}
@@ -40,7 +43,7 @@ use Rattle.row_calls.specs.declared.apply.Change.{Change}
 use Rattle.row_calls.specs.declared.apply.Change.the-variants.{Setup, Erase, Preset, Arm, Acknowledge}
 use Rattle.runs.specs.Op.{Op, changes, restore, reading, looks, ruleOf, rowAfter}
 use Rattle.runs.specs.Event.{Event, bits, asked, rowNext, rowSince}
-use Rattle.history.specs.Phase.{Phase, begun, acted, moved, bySort, readTo, restoredTo}
+use Rattle.history.specs.Phase.{Phase, begun, acted, moved, bySort, readTo, inEmpty, restoredTo}
 use Rattle.history.specs.Phase.{afterChange, afterCall, afterEvent, phaseOf, toldBy, toldRow}
 use Rattle.history.specs.Lawful.{Beginning, given, erased, made, Lawful}
 use Rattle.history_axis.proofs.ToldLaws.{told-first, act-told}
@@ -140,13 +143,37 @@ module _ {r : Row} (words : Words r) where
     by-test true q s e f = f refl
     by-test false q s e f = t
 
+    -- The row is empty where the phase began with an empty one.
+    vacant-now : isEmpty now ≡ isEmpty (p .start)
+    unfolding passes
+    vacant-now = go (test (isEmpty now)) (test (isEmpty (p .start)))
+      where
+        go : Decided (isEmpty now) → Decided (isEmpty (p .start)) → isEmpty now ≡ isEmpty (p .start)
+        go (yes a) (yes b) = a ∙ sym b
+        go (no a) (no b) = a ∙ sym b
+        go (yes a) (no b) =
+            let e = sym status-now ∙ status-exactly Empty now .1 a in
+            absurd (true≢false (sym (status-exactly Empty (p .start) .0 e) ∙ b))
+        go (no a) (yes b) =
+            let e = status-now ∙ status-exactly Empty (p .start) .1 b in
+            absurd (true≢false (sym (status-exactly Empty now .0 e) ∙ a))
+
+    -- What wants an empty row: another phase there, and in any other neither row nor phase.
+    in-empty : (c : Changed) (q : Phase) → Tells r q (leftBy now c) → Tells r (inEmpty q p) (leftBy now (onEmpty c now))
+    in-empty c q there = rw vacant-now (go (isEmpty (p .start)))
+      where
+        go : (b : Bool) → Tells r (cond b q p) (leftBy now (cond b c (Kept OCCUPIED)))
+        go true = there
+        go false = t
+
     -- ---- the events
 
     sets : (kind depth width turn : ℕ) → Tells r (afterChange p (Setup kind depth width turn))
         (leftBy now (setupRow kind depth width turn now))
     unfolding afterChange setupRow wordOf inRange
     sets kind depth width turn =
-        by-test (goodConfig kind depth width turn) _ _ _ (λ good. starts (made (configOf kind depth width turn) (pos 0) good refl))
+        in-empty _ _
+        (by-test (goodConfig kind depth width turn) _ _ _ (λ good. starts (made (configOf kind depth width turn) (pos 0) good refl)))
 
     presets : (z : ℤ) → Tells r (afterChange p (Preset z)) (leftBy now (presetRow z now))
     unfolding afterChange presetRow placeRow act
@@ -181,8 +208,10 @@ module _ {r : Row} (words : Words r) where
     unfolding afterCall restoreRow restoredBy
     restores bytes = go (readAs bytes) refl
       where
-        go : (a : Read) → readAs bytes ≡ a → Tells r (restoredTo p a) (leftBy now (restoredBy a))
-        go (Accepted s) e = let w = within-parts s (accepted-within bytes s e) in starts (made (s .config) (s .position) (w .0) (w .1))
+        go : (a : Read) → readAs bytes ≡ a → Tells r (restoredTo p a) (leftBy now (restoredBy a now))
+        go (Accepted s) e =
+            let w = within-parts s (accepted-within bytes s e) in
+            in-empty (To (saidRow s)) (begun (saidRow s)) (starts (made (s .config) (s .position) (w .0) (w .1)))
         go (Unread f) e = t
 
     changed-by : (c : Change) → Tells r (afterChange p c) (leftBy now (changeRow c now))

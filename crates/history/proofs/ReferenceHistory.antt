@@ -5,6 +5,7 @@ use mathlib.Core.Logic.{_↔_}
 use mathlib.Core.Bool.{Bool, true, false, cond, _&&_, true≢false, and-false, or-true}
 use mathlib.Core.List.{List, _∷_}
 use Prim.Native.Nat.{ℕ}
+use native.Mathlib.Omega.{arith}
 use lib.IntN.{ℤ, _-ℤ_}
 use Rattle.position.specs.Position.{inRange, positionOf}
 use Rattle.axis.specs.Kind.{X4}
@@ -13,7 +14,7 @@ use Rattle.axis.specs.declared.config.Config.{Config}
 use Rattle.axis.specs.declared.row.Axis.{Axis}
 use Rattle.axis.specs.declared.row.Row.{Row}
 use Rattle.axis.proofs.TestLaws.{refuted}
-use Rattle.axis_sound.specs.Sound.{statusOf}
+use Rattle.axis_sound.specs.Sound.{isEmpty, statusOf}
 use Rattle.axis_sound.specs.declared.Status.the-variants.{Sampled}
 use Rattle.axis_filter.specs.Lines.{rawOf}
 use Rattle.axis_filter.specs.declared.Raw.{Raw}
@@ -21,7 +22,7 @@ use Rattle.record.specs.Record.{readAs}
 use Rattle.record.specs.declared.answer.Read.{Read}
 use Rattle.record.specs.declared.answer.Read.the-variants.{Accepted, Refused as Unread}
 use Rattle.row_sample.specs.Sample.{stepRow}
-use Rattle.row_calls.specs.declared.apply.Change.{Change}
+use Rattle.row_calls.proofs.SetupLaws.{not-zero}
 use Rattle.row_calls.specs.declared.apply.Change.the-variants.{Setup, Erase, Preset, Arm, Acknowledge}
 use Rattle.history_axis.specs.Acts.{sampled, preset, after, Legal}
 use Rattle.history_axis.specs.Levels.{primedAt}
@@ -36,7 +37,7 @@ use Rattle.runs.specs.Op.{Op, changes, restore, reading, looks}
 use Rattle.runs.specs.Event.{Event, bits, asked, rowSince}
 use Rattle.history.specs.Phase.{Phase, acted, moved, bySort, restoredTo, afterChange, afterCall, afterEvent, phaseOf}
 use Rattle.history.specs.Phase.{startAxis, actsSince}
-use Rattle.history.specs.Lasting.{isRead, renews, begins}
+use Rattle.history.specs.Lasting.{erases}
 use Rattle.history.specs.Reference.{OnShaft, zeroBy, zeroAfter}
 use Rattle.history.proofs.RowHistory.{status-history}
 use Rattle.history.proofs.SampledHistory.{start, legal, axis-row, index-bit-row, next-phase, next-axis}
@@ -121,7 +122,7 @@ module _ {r : Row} (words : Words r) (h : List Event) (live : statusOf (rowSince
         ∙ position-walk x (start words h live) (sampled (rawOf n) ∷ actsSince r h) next-legal in
         rw (place, levels) (on-next levels (firstSeen (actsSince r h) b (no-home (shown z b) e)))
 
--- ---- a call that begins no phase
+-- ---- a call that is no erase
 
 module _ (z : ℤ → Bool) (p : Phase) (live : statusOf (p .start) ≡ Sampled) {b : ℤ} {o : Zero}
     (f : Follows z (axisOf (p .start)) (p .acts) b o) where
@@ -129,26 +130,26 @@ module _ (z : ℤ → Bool) (p : Phase) (live : statusOf (p .start) ≡ Sampled)
   Stays : Phase → Zero → Type 0
   Stays q k = (q .start ≡ p .start) × Follows z (axisOf (q .start)) (q .acts) b k
 
-  change-stays : (c : Change) → renews c ≡ false → Stays (afterChange p c) (zeroBy c b o)
-  unfolding Stays renews afterChange zeroBy
-  change-stays (Setup kind depth width turn) e = rw e (refl, f)
-  change-stays Erase e = absurd (true≢false e)
-  change-stays (Preset q) e = go (inRange q)
+  -- The row is not empty.
+  full : isEmpty (p .start) ≡ false
+  full = not-zero (p .start) (λ e. let z : _≡_ {A = ℕ} 0 1 = cc in omega arith)
+
+  call-stays : (op : Op) → erases (asked op) ≡ false → Stays (afterCall p op) (zeroAfter op b o)
+  unfolding Stays erases afterCall afterChange zeroAfter zeroBy
+  call-stays (changes (Setup kind depth width turn)) e = rw full (refl, f)
+  call-stays (changes Erase) e = absurd (true≢false e)
+  call-stays (changes (Preset q)) e = go (inRange q)
     where
       go : (v : Bool) → Stays (cond v (bySort (acted p (preset q)) (moved p q) (statusOf (p .start)) p) p) (cond v (set (b -ℤ q)) o)
       go true = rw live (refl, presets f q)
       go false = (refl, f)
-  change-stays Arm e = rw live (refl, arms f)
-  change-stays Acknowledge e = rw live (refl, acknowledges f)
-
-  call-stays : (op : Op) → begins (asked op) ≡ false → Stays (afterCall p op) (zeroAfter op b o)
-  unfolding Stays begins afterCall zeroAfter
-  call-stays (changes c) e = change-stays c e
-  call-stays (restore bytes) e = go (readAs bytes) e
+  call-stays (changes Arm) e = rw live (refl, arms f)
+  call-stays (changes Acknowledge) e = rw live (refl, acknowledges f)
+  call-stays (restore bytes) e = go (readAs bytes)
     where
-      go : (v : Read) → isRead v ≡ false → Stays (restoredTo p v) o
-      go (Accepted s) e = absurd (true≢false e)
-      go (Unread s) e = (refl, f)
+      go : (v : Read) → Stays (restoredTo p v) o
+      go (Accepted s) = rw full (refl, f)
+      go (Unread s) = (refl, f)
   call-stays (reading x) e = rw live (refl, f)
   call-stays (looks l) e = (refl, f)
 
@@ -174,8 +175,8 @@ module _ {r : Row} (words : Words r) {h : List Event} {z : ℤ → Bool} {b : �
         ∙ position-follows x x4-is one-is z (on .follows)
         (sym (range-history x s (actsSince r h) l) ∙ sym (ap (λ (y : Axis). y .flags .range) now) ∙ clear)
 
-    -- A call that begins no phase leaves the row on the shaft, and only an accepted preset moves its zero.
-    pub call-row : (op : Op) → begins (asked op) ≡ false → OnShaft z r (asked op ∷ h) b (zeroAfter op b o)
+    -- A call that is no erase leaves the row on the shaft, and only an accepted preset moves its zero.
+    pub call-row : (op : Op) → erases (asked op) ≡ false → OnShaft z r (asked op ∷ h) b (zeroAfter op b o)
     unfolding phaseOf afterEvent Stays
     call-row op e =
         let k = call-stays z (phaseOf r h) (sym (status-history words h) ∙ on .live) (on .follows) op e in

@@ -1,9 +1,11 @@
 -- Demand 2 for a row: what its four words and its bits of the answer are after any events, from any four words.
-use mathlib.Core.Path.{_≡_, refl, _∙_, ap}
+use mathlib.Core.Path.{_≡_, refl, sym, _∙_, ap}
+use mathlib.Core.Bool.{true}
 use mathlib.Core.List.{List, [], _∷_, _++_}
 use Prim.Native.Nat.{ℕ}
 use Rattle.axis.specs.Row.{axisOf, Words}
-use Rattle.axis_sound.specs.Sound.{statusOf}
+use Rattle.axis_sound.specs.Sound.{isEmpty, statusOf, passes}
+use Rattle.axis_sound.proofs.SoundLaws.{status-exactly}
 use Rattle.axis.specs.declared.row.Axis.{Axis}
 use Rattle.axis.specs.declared.row.Row.{Row}
 use Rattle.axis_sound.specs.declared.Status.{Status}
@@ -47,6 +49,11 @@ module _ {r : Row} (words : Words r) (h : List Event) where
   -- It is empty, sampled, a counter or broken as the row that the phase began with.
   pub status-history : statusOf (rowSince r h) ≡ statusOf (phaseOf r h .start)
   status-history = ap statusOf row-history ∙ whole .status
+
+  -- Where it is empty, the phase began with four zero words.
+  pub empty-history : statusOf (rowSince r h) ≡ Empty → isEmpty (phaseOf r h .start) ≡ true
+  unfolding passes
+  empty-history e = status-exactly Empty (phaseOf r h .start) .0 (sym status-history ∙ e)
 
   -- It is four words of 64 bits.
   pub words-history : Words (rowSince r h)

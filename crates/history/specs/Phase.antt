@@ -1,17 +1,17 @@
 -- What the events of one axis tell, from any four words: docs/RULES.md, "One row, four words", "A port sample"
 -- and "Calls that name one axis". A phase begins with every setup, erase and restore that is accepted, and
--- within a phase the configuration stays. Events have the newest first.
+-- within a phase the configuration stays. A row is empty where its phase began with an empty one. Events have the newest first.
 use Prim.Native.Nat.{ℕ}
 use mathlib.Core.Bool.{true, false, cond}
 use mathlib.Core.List.{List, [], _∷_}
 use lib.IntN.{ℤ}
-use Rattle.position.specs.Position.{inRange, wordOf, positionOf}
+use Rattle.position.specs.Position.{inRange, positionOf}
 use Rattle.reckon.specs.Widening.{widened}
 use Rattle.reckon.specs.declared.Reckoned.{Reckoned}
 use Rattle.reckon.specs.declared.Reckoned.the-variants.{Number, Refused as Unreckoned}
 use Rattle.axis.specs.Config.{goodConfig}
-use Rattle.axis.specs.Row.{axisOf, rowOf, emptyRow, fresh, freshAt}
-use Rattle.axis_sound.specs.Sound.{statusOf}
+use Rattle.axis.specs.Row.{axisOf, rowOf, emptyRow, fresh}
+use Rattle.axis_sound.specs.Sound.{isEmpty, statusOf}
 use Rattle.axis.specs.declared.row.Axis.{Axis}
 use Rattle.axis.specs.declared.row.Row.{Row}
 use Rattle.axis_sound.specs.declared.Status.{Status}
@@ -22,6 +22,7 @@ use Rattle.record.specs.declared.answer.Read.{Read}
 use Rattle.record.specs.declared.answer.Read.the-variants.{Accepted, Refused as Unread}
 use Rattle.row_counter.specs.Reading.{readAxis}
 use Rattle.row_calls.specs.Calls.{configOf}
+use Rattle.row_saving.specs.Saving.{saidRow}
 use Rattle.runs.specs.Told.{Marks, Told, marks}
 use Rattle.row_calls.specs.declared.apply.Change.{Change}
 use Rattle.row_calls.specs.declared.apply.Change.the-variants.{Setup, Erase, Preset, Arm, Acknowledge}
@@ -63,15 +64,19 @@ abbrev pub readTo : Phase → Reckoned → Phase
 readTo p (Number z) = moved p z
 readTo p (Unreckoned e) = p
 
--- A record begins a phase where it is accepted.
+-- What begins a phase in an empty row alone: in any other it is refused, and changes nothing.
+abbrev pub inEmpty : Phase → Phase → Phase
+inEmpty next p = cond (isEmpty (p .start)) next p
+
+-- A record begins a phase where it is accepted, in an empty row.
 abbrev pub restoredTo : Phase → Read → Phase
-restoredTo p (Accepted s) = begun (rowOf (freshAt (s .config) (wordOf (s .position))))
+restoredTo p (Accepted s) = inEmpty (begun (saidRow s)) p
 restoredTo p (Unread e) = p
 
 -- The phase after a change; one that is refused changes nothing.
 unfoldable pub afterChange : Phase → Change → Phase
 afterChange p (Setup kind depth width turn) =
-    cond (goodConfig kind depth width turn) (begun (rowOf (fresh (configOf kind depth width turn)))) p
+    inEmpty (cond (goodConfig kind depth width turn) (begun (rowOf (fresh (configOf kind depth width turn)))) p) p
 afterChange p Erase = begun emptyRow
 afterChange p (Preset z) = cond (inRange z) (bySort (acted p (placed z)) (moved p z) (statusOf (p .start)) p) p
 afterChange p Arm = bySort (acted p armed) p (statusOf (p .start)) p

@@ -24,7 +24,7 @@ pub record OnShaft (z : ℤ → Bool) (r : Row) (h : List Event) (b : ℤ) (o : 
   pub depth : axisOf (rowSince r h) .config .depth ≡ 1
   pub follows : Follows z (startAxis r h) (actsSince r h) b o
 
--- Where the position is 0 after a change that begins no phase, with the shaft at the angle b: an accepted preset moves it.
+-- Where the position is 0 after a change that is no erase, with the shaft at the angle b: an accepted preset moves it.
 unfoldable pub zeroBy : Change → ℤ → Zero → Zero
 zeroBy (Setup kind depth width turn) b o = o
 zeroBy Erase b o = o

@@ -1,9 +1,9 @@
 -- What a call answers on a row that it takes, for all calls at once.
 use Prim.Native.Nat.{ℕ, zero, suc, _<_}
 use native.Mathlib.Omega.{arith}
-use mathlib.Core.Path.{_≡_, refl, sym, _∙_}
+use mathlib.Core.Path.{_≡_, refl, ap}
 use mathlib.Core.Logic.{_⊎_, inl, inr}
-use mathlib.Core.Bool.{false, true≢false}
+use mathlib.Core.Bool.{true}
 use mathlib.Core.List.{List}
 use borrow.Author.Tests.{leb-true, leb-false, eqb-true, eqb-false}
 use lib.Dec.{eqb, leb}
@@ -19,7 +19,7 @@ use Rattle.axis.specs.Row.{axisOf}
 use Rattle.axis.specs.declared.row.Row.{Row}
 use Rattle.axis_sound.specs.Sound.{statusOf}
 use Rattle.axis_sound.specs.declared.Status.{Status}
-use Rattle.axis_sound.specs.declared.Status.the-variants.{Sampled, Counter}
+use Rattle.axis_sound.specs.declared.Status.the-variants.{Empty, Sampled, Counter}
 use Rattle.record.specs.Record.{readAs, recordOf}
 use Rattle.record.specs.declared.answer.Read.{Read}
 use Rattle.record.specs.declared.answer.Read.the-variants.{Accepted, Refused as Unread}
@@ -28,27 +28,23 @@ use Rattle.record.proofs.RecordLaws.{written-shape}
 use Rattle.row_calls.specs.Answer.{doneOf}
 use Rattle.row_calls.specs.Calls.{setupRow, eraseRow}
 use Rattle.row_calls.specs.declared.apply.Change.the-variants.{Setup, Erase, Preset, Arm, Acknowledge}
+use Rattle.row_calls.specs.declared.answer.Changed.{Changed}
 use Rattle.row_calls.proofs.StatusLaws.{Live}
+use Rattle.row_calls.proofs.SetupLaws.{on-empty}
 use Rattle.row_calls.proofs.ReasonLaws.{preset-is, arm-is, acknowledge-is}
 use Rattle.row_view.proofs.ViewLaws.{view-is}
 use Rattle.row_counter.proofs.ReadingLaws.{reading-is}
 use Rattle.row_speed.proofs.SpeedLaws.{speed-value, speed-still, speed-moving}
-use Rattle.row_saving.specs.Saving.{savedOf, restoreRow, restoredBy}
+use Rattle.row_saving.specs.Saving.{savedOf, isRead, restoreRow, restoredBy}
 use Rattle.row_saving.proofs.SaveLaws.{save-answers, save-front}
 use Rattle.runs.specs.Told.{toldDone}
 use Rattle.runs.specs.Op.{Op, view, speed, save, changes, restore, reading, looks, lookRow, answerOf}
 use Rattle.runs.specs.Answering.{toldRead, recordSize, Answers}
 use Rattle.runs.specs.Answering.{set-up, no-configuration, erased, placed, no-position, armed, acknowledged, restored, widened}
 use Rattle.runs.specs.Answering.{viewed, no-rate, no-period, sped, no-room, saved}
-use Rattle.runs.specs.Refusing.{takesAny, WrongKind, Takes}
+use Rattle.runs.specs.Refusing.{needsAxis, wantsEmpty, WrongKind, Takes}
 
 -- ---- the rows that a call takes
-
--- A call that does not take any row has a sampled row or a counter, and not one of the wrong kind.
-right-row : (o : Op) → takesAny o ≡ false → {s : Status} → Takes o s → ((s ≡ Sampled) ⊎ (s ≡ Counter)) × (WrongKind o s → ⊥)
-unfolding Takes
-right-row o q (inl e) = absurd (true≢false (sym e ∙ q))
-right-row o q (inr w) = w
 
 not-counter : {s : Status} → ((s ≡ Sampled) ⊎ (s ≡ Counter)) × (s ≡ Counter → ⊥) → s ≡ Sampled
 not-counter (inl e, h) = e
@@ -64,10 +60,11 @@ above : (n : ℕ) → (n ≡ 0 → ⊥) → 0 < n
 above zero h = absurd (h refl)
 above (suc n) h = omega arith
 
-read-told : (a : Read) → toldDone (doneOf (restoredBy a)) ≡ toldRead a
+-- A restore tells what the record's reader says, where the row is empty or the record refused.
+read-told : (a : Read) (r : Row) → (isRead a ≡ true → statusOf r ≡ Empty) → toldDone (doneOf (restoredBy a r)) ≡ toldRead a
 unfolding restoredBy toldRead
-read-told (Accepted s) = refl
-read-told (Unread e) = refl
+read-told (Accepted s) r empty = ap (λ (c : Changed). toldDone (doneOf c)) (on-empty _ r (empty refl))
+read-told (Unread e) r empty = refl
 
 module _ (r : Row) where
   speed-answered : (rate : ℕ) → statusOf r ≡ Sampled → Answers r (looks (speed rate)) (answerOf (looks (speed rate)) r)
@@ -102,22 +99,22 @@ module _ (r : Row) where
 
 -- What a call answers on a row that it takes is what one of its lines gives.
 pub answers : (o : Op) (r : Row) → Takes o (statusOf r) → Answers r o (answerOf o r)
-unfolding takesAny WrongKind answerOf lookRow setupRow eraseRow restoreRow
+unfolding Takes needsAxis wantsEmpty WrongKind answerOf lookRow setupRow eraseRow restoreRow
 answers (changes (Setup k d w n)) r t = go (test (goodConfig k d w n))
   where
     go : Decided (goodConfig k d w n) → Answers r (changes (Setup k d w n)) (answerOf (changes (Setup k d w n)) r)
-    go (yes g) = rw g (set-up g)
-    go (no g) = rw g (no-configuration g)
+    go (yes g) = rw (on-empty _ r (t .1 refl), g) (set-up g)
+    go (no g) = rw (on-empty _ r (t .1 refl), g) (no-configuration g)
 answers (changes Erase) r t = erased
 answers (changes (Preset p)) r t = go (test (inRange p))
   where
     go : Decided (inRange p) → Answers r (changes (Preset p)) (answerOf (changes (Preset p)) r)
-    go (yes g) = rw (preset-is p r (right-row (changes (Preset p)) refl t .0), g) (placed g)
-    go (no g) = rw (preset-is p r (right-row (changes (Preset p)) refl t .0), g) (no-position g)
-answers (changes Arm) r t = rw (arm-is r (not-counter (right-row (changes Arm) refl t))) armed
-answers (changes Acknowledge) r t = rw (acknowledge-is r (not-counter (right-row (changes Acknowledge) refl t))) acknowledged
-answers (restore bytes) r t = rw (read-told (readAs bytes)) (restored (exactly bytes (readAs bytes) .0 refl))
-answers (reading x) r t = rw (reading-is x r (not-sampled (right-row (reading x) refl t))) (widened (verdict _ _ x))
-answers (looks view) r t = rw (view-is r (right-row (looks view) refl t .0)) viewed
-answers (looks (speed rate)) r t = speed-answered r rate (not-counter (right-row (looks (speed rate)) refl t))
-answers (looks (save b)) r t = save-answered r b (right-row (looks (save b)) refl t .0)
+    go (yes g) = rw (preset-is p r (t .0 refl .0), g) (placed g)
+    go (no g) = rw (preset-is p r (t .0 refl .0), g) (no-position g)
+answers (changes Arm) r t = rw (arm-is r (not-counter (t .0 refl))) armed
+answers (changes Acknowledge) r t = rw (acknowledge-is r (not-counter (t .0 refl))) acknowledged
+answers (restore bytes) r t = rw (read-told (readAs bytes) r (t .1)) (restored (exactly bytes (readAs bytes) .0 refl))
+answers (reading x) r t = rw (reading-is x r (not-sampled (t .0 refl))) (widened (verdict _ _ x))
+answers (looks view) r t = rw (view-is r (t .0 refl .0)) viewed
+answers (looks (speed rate)) r t = speed-answered r rate (not-counter (t .0 refl))
+answers (looks (save b)) r t = save-answered r b (t .0 refl .0)

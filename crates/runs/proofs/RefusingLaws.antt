@@ -3,7 +3,7 @@
 use Prim.Native.Nat.{ℕ, _≤_, _<_}
 use native.Mathlib.Omega.{arith}
 use mathlib.Core.Path.{_≡_, refl, sym, ap, _∙_}
-use mathlib.Core.Logic.{_↔_}
+use mathlib.Core.Logic.{_↔_, _≢_, _⊎_, inl, inr, ⊎-elim}
 use mathlib.Core.Bool.{true, false, true≢false}
 use mathlib.Core.List.{List}
 use borrow.Author.Tests.{eqb-true, eqb-false, ltb-true, ltb-false}
@@ -13,15 +13,16 @@ use Rattle.integers.proofs.Balance.{Decided, yes, no, test}
 use Rattle.refusal.specs.Refusal.{numberOf}
 use Rattle.refusal.specs.Order.{checked, placeIn, After}
 use Rattle.refusal.specs.declared.Refusal.{Refusal}
-use Rattle.refusal.specs.declared.Refusal.the-variants.{Axis, Empty as EMPTY, Kind as KIND, Broken as BROKEN}
+use Rattle.refusal.specs.declared.Refusal.the-variants.{Axis, Empty as EMPTY, Kind as KIND, Broken as BROKEN, Occupied as OCCUPIED}
 use Rattle.refusal.proofs.RefusalLaws.{after-not, after-sooner}
 use Rattle.reckon.specs.Reckoned.{refusalIn}
 use Rattle.reckon.specs.declared.Reckoned.{Reckoned}
 use Rattle.reckon.specs.declared.Reckoned.the-variants.{Number, Refused as Unreckoned}
 use Rattle.axis.specs.declared.row.Row.{Row}
-use Rattle.axis_sound.specs.Sound.{statusOf}
+use Rattle.axis_sound.specs.Sound.{isEmpty, statusOf, passes}
+use Rattle.axis_sound.proofs.SoundLaws.{status-exactly}
 use Rattle.axis_sound.specs.declared.Status.{Status}
-use Rattle.axis_sound.specs.declared.Status.the-variants.{Empty, Broken}
+use Rattle.axis_sound.specs.declared.Status.the-variants.{Empty, Sampled, Counter, Broken}
 use Rattle.record.specs.Answer.{writtenNumber}
 use Rattle.record.specs.declared.answer.Written.{Written}
 use Rattle.record.specs.declared.answer.Written.the-variants.{Bytes, Refused as Unwritten}
@@ -34,6 +35,7 @@ use Rattle.row_calls.specs.declared.answer.Changed.the-variants.{To, Kept}
 use Rattle.row_calls.specs.declared.answer.Done.{Done}
 use Rattle.row_calls.specs.declared.answer.Done.the-variants.{Yes, Refused as Undone}
 use Rattle.row_calls.proofs.ReasonLaws.{preset-reasons, arm-reasons, acknowledge-reasons}
+use Rattle.row_calls.proofs.SetupLaws.{setup-occupied}
 use Rattle.row_view.specs.View.{viewNumber, viewRow}
 use Rattle.row_view.specs.declared.answer.Viewed.{Viewed}
 use Rattle.row_view.specs.declared.answer.Viewed.the-variants.{Shows, Refused as Unseen}
@@ -46,7 +48,7 @@ use Rattle.speed.specs.Speed.{speedRefusal}
 use Rattle.speed.specs.declared.Speed.{Speed}
 use Rattle.speed.specs.declared.Speed.the-variants.{Of, Refused as Unsped}
 use Rattle.row_saving.specs.Saving.{saveRow, savedIn, restoreRow}
-use Rattle.row_saving.proofs.SaveLaws.{save-reasons}
+use Rattle.row_saving.proofs.SaveLaws.{save-reasons, restore-occupied}
 use Rattle.table_rows.specs.Table.{axesIn, rowAt}
 use Rattle.table_rows.specs.Located.{located, onFound}
 use Rattle.table_rows.specs.declared.Located.{Located}
@@ -58,7 +60,7 @@ use Rattle.table.proofs.OrderLaws.{restore-late, view-late, reading-late, speed
 use Rattle.runs.specs.Told.{refused, toldDone, toldView, toldNumber, toldSpeed, toldBytes}
 use Rattle.runs.specs.Op.{Op, view, speed, save, changes, restore, reading, looks, lookRow, ruleOf, answerOf}
 use Rattle.runs.specs.Run.{tableBy, answerIn}
-use Rattle.runs.specs.Refusing.{refusalTold, takesAny, WrongKind, RefusesExactly}
+use Rattle.runs.specs.Refusing.{refusalTold, needsAxis, wantsEmpty, WrongKind, Takes, ByRow, RefusesExactly}
 use Rattle.runs.proofs.CallLaws.{look-keeps}
 use Rattle.runs.proofs.AnsweringLaws.{answers}
 
@@ -91,48 +93,67 @@ bytes-number (Unwritten e) b = refl
 
 -- ---- on a row
 
--- A call that takes any row is done, or refused for a reason after KIND.
-any-late : (o : Op) → takesAny o ≡ true → (r : Row) → After checked KIND (refusalTold (answerOf o r))
-unfolding takesAny answerOf
+-- A call that asks for no axis is done, or refused for a reason after KIND.
+any-late : (o : Op) → needsAxis o ≡ false → (r : Row) → After checked KIND (refusalTold (answerOf o r))
+unfolding needsAxis answerOf
 any-late (changes (Setup kind depth width turn)) q r =
     rw (done-number (doneOf (setupRow kind depth width turn r))) (setup-late kind depth width turn r)
 any-late (changes Erase) q r = rw (done-number (doneOf (eraseRow r))) (erase-late r)
-any-late (changes (Preset p)) q r = absurd (true≢false (sym q))
-any-late (changes Arm) q r = absurd (true≢false (sym q))
-any-late (changes Acknowledge) q r = absurd (true≢false (sym q))
+any-late (changes (Preset p)) q r = absurd (true≢false q)
+any-late (changes Arm) q r = absurd (true≢false q)
+any-late (changes Acknowledge) q r = absurd (true≢false q)
 any-late (restore bytes) q r = rw (done-number (doneOf (restoreRow bytes r))) (restore-late bytes r)
-any-late (reading x) q r = absurd (true≢false (sym q))
-any-late (looks l) q r = absurd (true≢false (sym q))
+any-late (reading x) q r = absurd (true≢false q)
+any-late (looks l) q r = absurd (true≢false q)
 
--- Any other is BROKEN, EMPTY and KIND exactly where the row is so.
-row-reasons : (o : Op) → takesAny o ≡ false → (r : Row) → StatusReasons (refusalTold (answerOf o r)) (statusOf r) (WrongKind o (statusOf r))
-unfolding takesAny answerOf lookRow WrongKind
-row-reasons (changes (Setup kind depth width turn)) q r = absurd (true≢false q)
-row-reasons (changes Erase) q r = absurd (true≢false q)
+-- Any other is BROKEN, EMPTY and KIND exactly where the row is so, and never OCCUPIED.
+row-reasons : (o : Op) → needsAxis o ≡ true → (r : Row) → StatusReasons (refusalTold (answerOf o r)) (statusOf r) (WrongKind o (statusOf r))
+unfolding needsAxis answerOf lookRow WrongKind
+row-reasons (changes (Setup kind depth width turn)) q r = absurd (true≢false (sym q))
+row-reasons (changes Erase) q r = absurd (true≢false (sym q))
 row-reasons (changes (Preset p)) q r = rw (done-number (doneOf (changeRow (Preset p) r))) (preset-reasons p r)
 row-reasons (changes Arm) q r = rw (done-number (doneOf (changeRow Arm r))) (arm-reasons r)
 row-reasons (changes Acknowledge) q r = rw (done-number (doneOf (changeRow Acknowledge r))) (acknowledge-reasons r)
-row-reasons (restore bytes) q r = absurd (true≢false q)
+row-reasons (restore bytes) q r = absurd (true≢false (sym q))
 row-reasons (reading x) q r = rw (reckoned-number (readingRow x r)) (reading-reasons x r)
 row-reasons (looks view) q r = rw (view-number (viewRow r)) (view-reasons r)
 row-reasons (looks (speed rate)) q r = rw (speed-number (speedRow rate r)) (speed-reasons rate r)
 row-reasons (looks (save b)) q r = rw (bytes-number (saveRow (length b) r) (savedIn b r)) (save-reasons (length b) r)
 
--- No row is of the wrong kind for one that takes any.
-any-kind : (o : Op) → takesAny o ≡ true → (s : Status) → WrongKind o s → ⊥
-unfolding takesAny WrongKind
+-- No row is of the wrong kind for one that asks for no axis.
+any-kind : (o : Op) → needsAxis o ≡ false → (s : Status) → WrongKind o s → ⊥
+unfolding needsAxis WrongKind
 any-kind (changes (Setup kind depth width turn)) q s w = w
 any-kind (changes Erase) q s w = w
 any-kind (changes (Preset p)) q s w = w
-any-kind (changes Arm) q s w = true≢false (sym q)
-any-kind (changes Acknowledge) q s w = true≢false (sym q)
+any-kind (changes Arm) q s w = true≢false q
+any-kind (changes Acknowledge) q s w = true≢false q
 any-kind (restore bytes) q s w = w
-any-kind (reading x) q s w = true≢false (sym q)
-any-kind (looks l) q s w = true≢false (sym q)
+any-kind (reading x) q s w = true≢false q
+any-kind (looks l) q s w = true≢false q
+
+module _ (r : Row) where
+  -- What a call never says it says of no row, and where it does not want an empty one it need not.
+  never : {n : ℕ} → (n ≡ numberOf OCCUPIED → ⊥) → (n ≡ numberOf OCCUPIED) ↔ ((false ≡ true) × (statusOf r ≢ Empty))
+  never not-said = (λ e. absurd (not-said e), λ w. absurd (true≢false (sym (w .0))))
+
+  -- OCCUPIED is for a call that wants an empty row, exactly on one that is not empty.
+  row-occupied : (o : Op) → (refusalTold (answerOf o r) ≡ numberOf OCCUPIED) ↔ ((wantsEmpty o ≡ true) × (statusOf r ≢ Empty))
+  unfolding needsAxis wantsEmpty answerOf eraseRow
+  row-occupied (changes (Setup kind depth width turn)) =
+      let says = setup-occupied kind depth width turn r in
+      rw (done-number (doneOf (setupRow kind depth width turn r))) (λ e. (refl, says .0 e), λ w. says .1 (w .1))
+  row-occupied (changes Erase) = rw (done-number (doneOf (eraseRow r))) (never (λ e. omega arith))
+  row-occupied (changes (Preset p)) = never (row-reasons (changes (Preset p)) refl r .unoccupied)
+  row-occupied (changes Arm) = never (row-reasons (changes Arm) refl r .unoccupied)
+  row-occupied (changes Acknowledge) = never (row-reasons (changes Acknowledge) refl r .unoccupied)
+  row-occupied (restore bytes) = rw (done-number (doneOf (restoreRow bytes r))) (restore-occupied bytes r)
+  row-occupied (reading x) = never (row-reasons (reading x) refl r .unoccupied)
+  row-occupied (looks l) = never (row-reasons (looks l) refl r .unoccupied)
 
 -- Every call is done on a row, or refused for a reason after AXIS.
 row-late : (o : Op) (r : Row) → After checked Axis (refusalTold (answerOf o r))
-unfolding takesAny answerOf lookRow
+unfolding needsAxis answerOf lookRow
 row-late (changes (Setup kind depth width turn)) r =
     after-sooner checked KIND Axis (lit≤ tt) (any-late (changes (Setup kind depth width turn)) refl r)
 row-late (changes Erase) r = after-sooner checked KIND Axis (lit≤ tt) (any-late (changes Erase) refl r)
@@ -144,6 +165,83 @@ row-late (reading x) r = rw (reckoned-number (readingRow x r)) (reading-late x r
 row-late (looks view) r = rw (view-number (viewRow r)) (view-late r)
 row-late (looks (speed rate)) r = rw (speed-number (speedRow rate r)) (speed-late rate r)
 row-late (looks (save b)) r = rw (bytes-number (saveRow (length b) r) (savedIn b r)) (save-late (length b) r)
+
+-- ---- no row is left over
+
+-- A row is of the wrong kind or not.
+is-counter : (s : Status) → (s ≡ Counter) ⊎ (s ≡ Counter → ⊥)
+is-counter Counter = inl refl
+is-counter Sampled = inr (λ e. let z : _≡_ {A = ℕ} 0 1 = cc in omega arith)
+is-counter Empty = inr (λ e. let z : _≡_ {A = ℕ} 0 1 = cc in omega arith)
+is-counter Broken = inr (λ e. let z : _≡_ {A = ℕ} 0 1 = cc in omega arith)
+
+is-sampled : (s : Status) → (s ≡ Sampled) ⊎ (s ≡ Sampled → ⊥)
+is-sampled Sampled = inl refl
+is-sampled Counter = inr (λ e. let z : _≡_ {A = ℕ} 0 1 = cc in omega arith)
+is-sampled Empty = inr (λ e. let z : _≡_ {A = ℕ} 0 1 = cc in omega arith)
+is-sampled Broken = inr (λ e. let z : _≡_ {A = ℕ} 0 1 = cc in omega arith)
+
+wrong-kind : (o : Op) (s : Status) → WrongKind o s ⊎ (WrongKind o s → ⊥)
+unfolding WrongKind
+wrong-kind (changes (Setup kind depth width turn)) s = inr (λ w. w)
+wrong-kind (changes Erase) s = inr (λ w. w)
+wrong-kind (changes (Preset p)) s = inr (λ w. w)
+wrong-kind (changes Arm) s = is-counter s
+wrong-kind (changes Acknowledge) s = is-counter s
+wrong-kind (restore bytes) s = inr (λ w. w)
+wrong-kind (reading x) s = is-sampled s
+wrong-kind (looks view) s = inr (λ w. w)
+wrong-kind (looks (speed rate)) s = is-counter s
+wrong-kind (looks (save b)) s = inr (λ w. w)
+
+-- A call that asks for an axis wants no empty row.
+wants-axis : (o : Op) → needsAxis o ≡ true → wantsEmpty o ≡ true → ⊥
+unfolding needsAxis wantsEmpty
+wants-axis (changes (Setup kind depth width turn)) n w = true≢false (sym n)
+wants-axis (changes Erase) n w = true≢false (sym n)
+wants-axis (changes (Preset p)) n w = true≢false (sym w)
+wants-axis (changes Arm) n w = true≢false (sym w)
+wants-axis (changes Acknowledge) n w = true≢false (sym w)
+wants-axis (restore bytes) n w = true≢false (sym n)
+wants-axis (reading x) n w = true≢false (sym w)
+wants-axis (looks l) n w = true≢false (sym w)
+
+-- A call takes a row, or the row's own state gives a reason.
+module _ (o : Op) (r : Row) where
+  Told-of : Type 0
+  Told-of = Takes o (statusOf r) ⊎ ByRow (refusalTold (answerOf o r))
+
+  -- One that asks for an axis.
+  told-axis : needsAxis o ≡ true → (s : Status) → statusOf r ≡ s → Told-of
+  unfolding Told-of Takes
+  told-axis q s e = go s e
+    where
+      kinds : ((statusOf r ≡ Sampled) ⊎ (statusOf r ≡ Counter)) → Told-of
+      kinds live =
+          ⊎-elim (λ w. inr (inr (inl (row-reasons o q r .kind .1 w)))) (λ w. inl (λ _. (live, w), λ e. absurd (wants-axis o q e)))
+          (wrong-kind o (statusOf r))
+
+      go : (s : Status) → statusOf r ≡ s → Told-of
+      go Broken e = inr (inl (inl (row-reasons o q r .broken .1 e)))
+      go Empty e = inr (inl (inr (row-reasons o q r .empty .1 e)))
+      go Sampled e = kinds (inl e)
+      go Counter e = kinds (inr e)
+
+  -- One that does not.
+  told-free : needsAxis o ≡ false → Decided (wantsEmpty o) → Decided (isEmpty r) → Told-of
+  unfolding Told-of Takes passes
+  told-free q (no w) e = inl (λ n. absurd (true≢false (sym n ∙ q)), λ v. absurd (true≢false (sym v ∙ w)))
+  told-free q (yes w) (yes e) = inl (λ n. absurd (true≢false (sym n ∙ q)), λ _. status-exactly Empty r .1 e)
+  told-free q (yes w) (no e) =
+      inr (inr (inr (row-occupied r o .1 (w, λ z. true≢false (sym (status-exactly Empty r .0 z) ∙ e)))))
+
+  taken-or-not : Takes o (statusOf r) ⊎ ByRow (refusalTold (answerOf o r))
+  unfolding Told-of
+  taken-or-not = go (test (needsAxis o))
+    where
+      go : Decided (needsAxis o) → Told-of
+      go (yes q) = told-axis q (statusOf r) refl
+      go (no q) = told-free q (test (wantsEmpty o)) (test (isEmpty r))
 
 -- ---- on a table
 
@@ -164,20 +262,20 @@ module _ (o : Op) (t : List ℕ) (k : ℕ) where
 
   -- BROKEN and EMPTY, by what the laws of a row say of them.
   by-status : (f : Refusal) (s : Status) → 2 < numberOf f → placeIn checked (numberOf f) ≤ placeIn checked (numberOf KIND) →
-      ((q : takesAny o ≡ false) → (refusalTold (answerOf o (rowAt t k)) ≡ numberOf f) ↔ (statusOf (rowAt t k) ≡ s)) →
+      ((q : needsAxis o ≡ true) → (refusalTold (answerOf o (rowAt t k)) ≡ numberOf f) ↔ (statusOf (rowAt t k) ≡ s)) →
       (refusalTold (answerIn t k o) ≡ numberOf f)
-      ↔ ((k < axesIn (length t)) × (takesAny o ≡ false) × (statusOf (rowAt t k) ≡ s))
+      ↔ ((k < axesIn (length t)) × (needsAxis o ≡ true) × (statusOf (rowAt t k) ≡ s))
   by-status f s h sooner line = (
-    λ e. let there = on-row (numberOf f) h e in go (test (takesAny o)) there,
+    λ e. let there = on-row (numberOf f) h e in go (test (needsAxis o)) there,
     λ w. ap refusalTold (ordered .own (w .0)) ∙ line (w .1) .1 (w .2),
   )
     where
-      go : Decided (takesAny o) → (k < axesIn (length t)) × (refusalTold (answerOf o (rowAt t k)) ≡ numberOf f) →
-          (k < axesIn (length t)) × (takesAny o ≡ false) × (statusOf (rowAt t k) ≡ s)
-      go (yes q) w = absurd (after-not checked KIND f sooner (any-late o q (rowAt t k)) (w .1))
-      go (no q) w = (w .0, q, line q .0 (w .1))
+      go : Decided (needsAxis o) → (k < axesIn (length t)) × (refusalTold (answerOf o (rowAt t k)) ≡ numberOf f) →
+          (k < axesIn (length t)) × (needsAxis o ≡ true) × (statusOf (rowAt t k) ≡ s)
+      go (no q) w = absurd (after-not checked KIND f sooner (any-late o q (rowAt t k)) (w .1))
+      go (yes q) w = (w .0, q, line q .0 (w .1))
 
-  -- Each of the reasons 1 to 5 exactly when its line says.
+  -- Each of the reasons 1 to 5 and 13 exactly when its line says.
   pub refuses-exactly : RefusesExactly o t k (answerIn t k o)
   refuses-exactly = record {
     slice = ordered .slice;
@@ -185,19 +283,24 @@ module _ (o : Op) (t : List ℕ) (k : ℕ) where
     broken = by-status BROKEN Broken (lit< tt) (lit≤ tt) (λ q. row-reasons o q (rowAt t k) .broken);
     empty = by-status EMPTY Empty (lit< tt) (lit≤ tt) (λ q. row-reasons o q (rowAt t k) .empty);
     kind = (
-      λ e. let w = on-row 5 (lit< tt) e in (w .0, wrong (test (takesAny o)) (w .1)),
-      λ w. ap refusalTold (ordered .own (w .0)) ∙ rightly (test (takesAny o)) (w .1),
+      λ e. let w = on-row 5 (lit< tt) e in (w .0, wrong (test (needsAxis o)) (w .1)),
+      λ w. ap refusalTold (ordered .own (w .0)) ∙ rightly (test (needsAxis o)) (w .1),
+    );
+    occupied = (
+      λ e. let w = on-row 13 (lit< tt) e in let q = row-occupied (rowAt t k) o .0 (w .1) in (w .0, q .0, q .1),
+      λ w. ap refusalTold (ordered .own (w .0)) ∙ row-occupied (rowAt t k) o .1 (w .1, w .2),
     );
     own = λ h takes. rw (ordered .own h) (answers o (rowAt t k) takes);
+    all = λ h. rw (ordered .own h) (taken-or-not o (rowAt t k));
   }
     where
-      wrong : Decided (takesAny o) → refusalTold (answerOf o (rowAt t k)) ≡ 5 → WrongKind o (statusOf (rowAt t k))
-      wrong (yes q) e = absurd (after-not checked KIND KIND (lit≤ tt) (any-late o q (rowAt t k)) e)
-      wrong (no q) e = row-reasons o q (rowAt t k) .kind .0 e
+      wrong : Decided (needsAxis o) → refusalTold (answerOf o (rowAt t k)) ≡ 5 → WrongKind o (statusOf (rowAt t k))
+      wrong (no q) e = absurd (after-not checked KIND KIND (lit≤ tt) (any-late o q (rowAt t k)) e)
+      wrong (yes q) e = row-reasons o q (rowAt t k) .kind .0 e
 
-      rightly : Decided (takesAny o) → WrongKind o (statusOf (rowAt t k)) → refusalTold (answerOf o (rowAt t k)) ≡ 5
-      rightly (yes q) w = absurd (any-kind o q (statusOf (rowAt t k)) w)
-      rightly (no q) w = row-reasons o q (rowAt t k) .kind .1 w
+      rightly : Decided (needsAxis o) → WrongKind o (statusOf (rowAt t k)) → refusalTold (answerOf o (rowAt t k)) ≡ 5
+      rightly (no q) w = absurd (any-kind o q (statusOf (rowAt t k)) w)
+      rightly (yes q) w = row-reasons o q (rowAt t k) .kind .1 w
 
 -- ---- a refusal changes nothing
 

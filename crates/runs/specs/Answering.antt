@@ -29,7 +29,7 @@ use Rattle.row_saving.specs.Saving.{savedOf}
 use Rattle.runs.specs.Told.{Told, refused, done, shown, quotient, wrote, toldNumber}
 use Rattle.runs.specs.Op.{Op, view, speed, save, changes, restore, reading, looks}
 
--- What a restore tells by what the record's reader says.
+-- What a restore tells by what the record's reader says, on a row that it takes.
 unfoldable pub toldRead : Read → Told
 toldRead (Accepted s) = done
 toldRead (Unread e) = refused e

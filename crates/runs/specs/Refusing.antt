@@ -10,6 +10,8 @@ use Rattle.axis_sound.specs.Sound.{statusOf}
 use Rattle.axis_sound.specs.declared.Status.{Status}
 use Rattle.axis_sound.specs.declared.Status.the-variants.{Empty, Sampled, Counter, Broken}
 use Rattle.row_calls.specs.declared.apply.Change.the-variants.{Setup, Erase, Preset, Arm, Acknowledge}
+use Rattle.record.specs.Record.{readAs}
+use Rattle.row_saving.specs.Saving.{isRead}
 use Rattle.table_rows.specs.Table.{axesIn, rowAt}
 use Rattle.runs.specs.Told.{Told, marks, refused, done, shown, number, quotient, wrote}
 use Rattle.runs.specs.Op.{Op, view, speed, save, changes, restore, reading, looks}
@@ -25,16 +27,27 @@ refusalTold (number z) = 0
 refusalTold (quotient q) = 0
 refusalTold (wrote n bytes) = 0
 
--- Setup, erase and restore take any row, a broken and an empty one too.
-unfoldable pub takesAny : Op → Bool
-takesAny (changes (Setup kind depth width turn)) = true
-takesAny (changes Erase) = true
-takesAny (changes (Preset p)) = false
-takesAny (changes Arm) = false
-takesAny (changes Acknowledge) = false
-takesAny (restore bytes) = true
-takesAny (reading x) = false
-takesAny (looks l) = false
+-- Preset, arm, acknowledge, a reading and the looks ask for an axis in the row; setup, erase and restore do not.
+unfoldable pub needsAxis : Op → Bool
+needsAxis (changes (Setup kind depth width turn)) = false
+needsAxis (changes Erase) = false
+needsAxis (changes (Preset p)) = true
+needsAxis (changes Arm) = true
+needsAxis (changes Acknowledge) = true
+needsAxis (restore bytes) = false
+needsAxis (reading x) = true
+needsAxis (looks l) = true
+
+-- A setup wants an empty row, and so does a restore whose record is accepted.
+unfoldable pub wantsEmpty : Op → Bool
+wantsEmpty (changes (Setup kind depth width turn)) = true
+wantsEmpty (changes Erase) = false
+wantsEmpty (changes (Preset p)) = false
+wantsEmpty (changes Arm) = false
+wantsEmpty (changes Acknowledge) = false
+wantsEmpty (restore bytes) = isRead (readAs bytes)
+wantsEmpty (reading x) = false
+wantsEmpty (looks l) = false
 
 -- Arm, acknowledge and speed by period are not for counters, and a reading is not for sampled rows.
 unfoldable pub WrongKind : Op → Status → Type 0
@@ -49,16 +62,25 @@ WrongKind (looks view) s = ⊥
 WrongKind (looks (speed rate)) s = s ≡ Counter
 WrongKind (looks (save buffer)) s = ⊥
 
--- A call takes a row: any row at all, or a sampled row or a counter that is not of the wrong kind.
+-- A call takes a row: where it asks for an axis, a sampled row or a counter that is not of the wrong kind; where it wants an empty row, an
+-- empty one; and else any.
 unfoldable pub Takes : Op → Status → Type 0
-Takes o s = (takesAny o ≡ true) ⊎ (((s ≡ Sampled) ⊎ (s ≡ Counter)) × (WrongKind o s → ⊥))
+Takes o s =
+    (needsAxis o ≡ true → ((s ≡ Sampled) ⊎ (s ≡ Counter)) × (WrongKind o s → ⊥))
+    × (wantsEmpty o ≡ true → s ≡ Empty)
 
--- The reasons 1 to 5 of a call that names axis k of a table, each exactly when, and on a row that the call takes the answer that one of
--- its lines gives.
+-- The number of a reason that a row's own state gives: BROKEN, EMPTY, KIND or OCCUPIED.
+abbrev pub ByRow : ℕ → Type 0
+ByRow n = ((n ≡ 3) ⊎ (n ≡ 4)) ⊎ ((n ≡ 5) ⊎ (n ≡ 13))
+
+-- The reasons 1 to 5 and 13 of a call that names axis k of a table, each exactly when; on a row that the call takes the answer that one
+-- of its lines gives; and no row is left over.
 pub record RefusesExactly (o : Op) (t : List ℕ) (k : ℕ) (a : Told) : Type 0 where
   pub slice : (refusalTold a ≡ 1) ↔ (axesIn (length t) ≡ 0)
   pub axis : (refusalTold a ≡ 2) ↔ ((axesIn (length t) ≢ 0) × (axesIn (length t) ≤ k))
-  pub broken : (refusalTold a ≡ 3) ↔ ((k < axesIn (length t)) × (takesAny o ≡ false) × (statusOf (rowAt t k) ≡ Broken))
-  pub empty : (refusalTold a ≡ 4) ↔ ((k < axesIn (length t)) × (takesAny o ≡ false) × (statusOf (rowAt t k) ≡ Empty))
+  pub broken : (refusalTold a ≡ 3) ↔ ((k < axesIn (length t)) × (needsAxis o ≡ true) × (statusOf (rowAt t k) ≡ Broken))
+  pub empty : (refusalTold a ≡ 4) ↔ ((k < axesIn (length t)) × (needsAxis o ≡ true) × (statusOf (rowAt t k) ≡ Empty))
   pub kind : (refusalTold a ≡ 5) ↔ ((k < axesIn (length t)) × WrongKind o (statusOf (rowAt t k)))
+  pub occupied : (refusalTold a ≡ 13) ↔ ((k < axesIn (length t)) × (wantsEmpty o ≡ true) × (statusOf (rowAt t k) ≢ Empty))
   pub own : k < axesIn (length t) → Takes o (statusOf (rowAt t k)) → Answers (rowAt t k) o a
+  pub all : k < axesIn (length t) → Takes o (statusOf (rowAt t k)) ⊎ ByRow (refusalTold a)
