@@ -1,14 +1,16 @@
 -- What the headlines ask of a run is met: by a shaft on axis 1 while axis 0 is called between, by a counter with refused calls of six
--- kinds between its readings, by a shaft with an index line that is homed both ways, and by speeds of both calls. Computed to their end.
+-- kinds between its readings, by a shaft with an index line that is homed both ways, by setups, restores and looks of a live axis, and by
+-- speeds of both calls. Computed to their end.
 use Prim.Native.Nat.{ℕ, _^_, _+_, _*_}
-use mathlib.Core.Path.{refl}
+use mathlib.Core.Path.{_≡_, refl}
+use mathlib.Core.Logic.{_≢_}
 use mathlib.Core.Bool.{Bool, false}
 use mathlib.Core.List.{List, [], _∷_}
 use native.Mathlib.Omega.{arith}
 use borrow.Author.Tests.{eqb-true}
 use lib.Dec.{eqb, lit<, lit≤}
 use lib.IntN.{ℤ, pos, negsuc, _-ℤ_, _*ℤ_}
-use Rattle.refusal.specs.declared.Refusal.the-variants.{Kind, Value, Half, Record}
+use Rattle.refusal.specs.declared.Refusal.the-variants.{Kind, Value, Half, Record, Occupied}
 use Rattle.integers.specs.Integer.{modZ, floorZ}
 use Rattle.integers.proofs.Balance.{bal-sub, bal-scale, eqZ, floor-is}
 use Rattle.position.specs.Position.{inRange, positionOf, wordOf}
@@ -23,6 +25,7 @@ use Rattle.axis.specs.Config.{goodConfig}
 use Rattle.axis.specs.Limit.{mostAxes}
 use Rattle.axis.specs.declared.row.Row.{Row}
 use Rattle.axis_sound.specs.Sound.{statusOf}
+use Rattle.axis_sound.specs.declared.Status.the-variants.{Empty}
 use Rattle.axis_filter.specs.Lines.{levelOf}
 use Rattle.axis_filter.specs.Filter.{filterLine}
 use Rattle.axis_decode.specs.Decode.{x1, x2, x4, tableOf, entry, isE, isP, isM}
@@ -41,6 +44,7 @@ use Rattle.row_view.specs.View.{viewRow}
 use Rattle.row_counter.specs.Reading.{readingRow, storedRow, readRow}
 use Rattle.row_counter.specs.Counter.{UnderHalf, still, polled}
 use Rattle.row_saving.specs.Saving.{restoredBy, restoreRow}
+use Rattle.row_saving.proofs.StatedLaws.{narrow}
 use Rattle.row_speed.specs.Speed.{speedOf, speedRow}
 use Rattle.row_speed.proofs.StatedLaws.{paced}
 use Rattle.table_rows.specs.Table.{axesIn, rowAt}
@@ -58,12 +62,14 @@ use Rattle.runs.specs.Op.{view, changes, restore, reading, looks, lookRow, rule
 use Rattle.runs.specs.Event.{bits, asked, rowNext, rowSince}
 use Rattle.runs.specs.Run.{Call, port, names}
 use Rattle.history.specs.Phase.{afterChange, afterCall, afterEvent, phaseOf}
+use Rattle.history.specs.Lasting.{erases, Unerased, unheeded, heeded}
 use Rattle.history.specs.Shaft.{ShaftShown}
 use Rattle.history.specs.Reference.{OnShaft}
 use Rattle.history.specs.Counter.{CounterReads, none, read, between, refusing}
 use Rattle.history.proofs.CounterHistory.{sample-aside, look-aside}
 use Rattle.promises.specs.Own.{seenLook, seen, eventOf, events, own}
 use Rattle.promises.specs.Day.{by-count, by-period, AnsweredOver}
+use Rattle.promises.specs.Full.{OnFull}
 
 -- The shaft at an angle, with Z at 0.
 abbrev at : ℤ → ShaftSample
@@ -80,11 +86,11 @@ shaft-met = record { nibbles = 1 ∷ 11 ∷ 1 ∷ 0 ∷ []; samples = refl; leve
 abbrev counter : Row
 counter = record { w0 = 2 ^ 62 + 250; w1 = 8 + 8 * 2 ^ 8; w2 = 0; w3 = 0 }
 
--- Readings at 259 and at 300, and between them a view, a sample, an arm, readings that are VALUE and HALF, a setup and a preset outside
--- their limits and the restore of no record.
+-- Readings at 259 and at 300, and between them a view, a sample, an arm, readings that are VALUE and HALF, a setup over it, a preset
+-- outside its limits and the restore of no record.
 pub counter-met :
     CounterReads counter 8
-    (asked (reading 44) ∷ asked (restore []) ∷ asked (changes (Preset (pos (2 ^ 62)))) ∷ asked (changes (Setup 8 1 8 0))
+    (asked (reading 44) ∷ asked (restore []) ∷ asked (changes (Preset (pos (2 ^ 62)))) ∷ asked (changes (Setup 8 0 8 0))
     ∷ asked (reading 131) ∷ asked (reading 256) ∷ asked (changes Arm) ∷ bits 7 ∷ asked (looks view) ∷ asked (reading 3) ∷ [])
     (pos 300 ∷ pos 259 ∷ [])
 unfolding modZ rowSince rowNext rowAfter ruleOf answerOf lookRow readRow storedRow readingRow statusOf widened goodReading inRange
@@ -94,7 +100,7 @@ counter-met =
     read (pos 300)
     (refusing (restore []) Record refl
     (refusing (changes (Preset (pos (2 ^ 62)))) Value refl
-    (refusing (changes (Setup 8 1 8 0)) Value refl
+    (refusing (changes (Setup 8 0 8 0)) Occupied refl
     (refusing (reading 131) Half refl
     (refusing (reading 256) Value refl
     (refusing (changes Arm) Kind refl
@@ -119,10 +125,10 @@ pair = 0 ∷ 0 ∷ 0 ∷ 0 ∷ (2 ^ 62) ∷ (4 + 2 ^ 4) ∷ 0 ∷ 4 ∷ []
 
 -- Axis 1 is armed, and its shaft goes from angle 1 back to 0, where Z rises and nothing is done, and to -1, which homes; forward to 0,
 -- which is checked, and to 1; armed again and preset it goes back and is homed over the same edge; armed once more it is homed there
--- forward. Between are an erase of axis 0, a setup outside its limits, a view and an acknowledge.
+-- forward. Between are an erase of axis 0, a setup over axis 1, a view and an acknowledge.
 abbrev trip : List Call
 trip =
-    names 1 (changes Arm) ∷ port 16 ∷ port 64 ∷ names 0 (changes Erase) ∷ port 32 ∷ names 1 (changes (Setup 8 1 8 0)) ∷ port 64
+    names 1 (changes Arm) ∷ port 16 ∷ port 64 ∷ names 0 (changes Erase) ∷ port 32 ∷ names 1 (changes (Setup 4 1 0 4)) ∷ port 64
     ∷ names 1 (looks view) ∷ port 16 ∷ names 1 (changes Acknowledge) ∷ names 1 (changes Arm) ∷ names 1 (changes (Preset (pos 7)))
     ∷ port 64 ∷ port 32 ∷ names 1 (changes Arm) ∷ port 64 ∷ []
 
@@ -152,6 +158,29 @@ whole-met e k = record {
   apart = eqZ (e -ℤ pos 0) (floorZ e 4 *ℤ pos 4)
       (omega (arith, bal-sub e (pos 0), bal-scale (floorZ e 4) 4, floor-is e 4 (lit< tt), eqb-true (modZ e 4) 0 (k .at)));
 }
+
+-- ---- setups, restores and looks of a live axis
+
+-- Samples, a preset, an arm, an acknowledge and a reading of axis 1, and between them a setup, the restore of a good record, a view and an
+-- erase of axis 0: axis 1 is not erased, and heeds all but these.
+abbrev mixed : List Call
+mixed =
+    port 16 ∷ names 1 (changes (Setup 4 1 0 4)) ∷ port 48 ∷ names 0 (changes Erase) ∷ names 1 (restore narrow)
+    ∷ names 1 (changes (Preset (pos 7))) ∷ names 1 (looks view) ∷ names 1 (changes Arm) ∷ names 1 (changes Acknowledge)
+    ∷ names 1 (reading 3) ∷ []
+
+pub survives-met : Unerased (own 1 mixed)
+    × (heeded (own 1 mixed)
+    ≡ asked (reading 3) ∷ asked (changes Acknowledge) ∷ asked (changes Arm) ∷ asked (changes (Preset (pos 7))) ∷ bits 3 ∷ bits 1 ∷ [])
+unfolding events eventOf seen seenLook nibble erases unheeded heeded
+survives-met = ((refl, (refl, (refl, (refl, (refl, (refl, (refl, (refl, (refl, tt))))))))), refl)
+
+-- A setup, the restore of a good record and a view of axis 1, which is not empty.
+pub full-met : OnFull pair (names 1 (changes (Setup 8 0 8 0)) ∷ names 1 (restore narrow) ∷ names 1 (looks view) ∷ [])
+unfolding unheeded statusOf rowAt
+full-met =
+    let full : statusOf (rowAt pair 1) ≢ Empty = λ e. let z : _≡_ {A = ℕ} 0 1 = cc in omega arith in
+    (refl, full, (refl, full, (refl, full, tt)))
 
 -- ---- speeds
 

@@ -1,4 +1,4 @@
--- The three demands, in order: the fourteen theorems that the rest of this repository is for. Each is written out in the definitions of
+-- The three demands, in order: the seventeen theorems that the rest of this repository is for. Each is written out in the definitions of
 -- specs/ and proved in a line or two by the laws that it cites. That every call ends and never traps, whatever it is lent, is what the
 -- check of each function says, and no public call asks anything of its caller; what the calls answer and leave is what `Samples`, `Makes`,
 -- `ReadingMakes`, `SaveMakes`, `viewedIn` and `speedIn` promise, in the contracts of table_port, table_change and table, and for a speed by
@@ -7,7 +7,7 @@
 use Prim.Native.Nat.{ℕ, _+_, _*_, _≤_, _<_, min}
 use mathlib.Core.Path.{_≡_, subst}
 use mathlib.Core.Logic.{_↔_, _≢_}
-use mathlib.Core.Bool.{Bool, false, _&&_}
+use mathlib.Core.Bool.{Bool, true, false, _&&_}
 use mathlib.Core.List.{List, [], _∷_, _++_}
 use lib.Dec.{eqb}
 use lib.IntN.{ℤ, pos, natAbs, _+ℤ_, _-ℤ_, _*ℤ_}
@@ -22,12 +22,14 @@ use Rattle.speed.proofs.SumLaws.{says-more, day-exact, day-carried}
 use Rattle.tagged.specs.Bytes.{AllBytes}
 use Rattle.axis.specs.Kind.{X4}
 use Rattle.axis.specs.Limit.{mostAxes}
-use Rattle.axis.specs.Row.{axisOf, rowOf, freshAt}
+use Rattle.axis.specs.Config.{goodConfig}
+use Rattle.axis.specs.Row.{axisOf, rowOf, fresh, freshAt}
 use Rattle.axis_sound.specs.Sound.{statusOf}
-use Rattle.axis_sound.specs.declared.Status.the-variants.{Sampled, Counter}
+use Rattle.axis_sound.specs.declared.Status.the-variants.{Empty, Sampled, Counter}
 use Rattle.axis_filter.specs.Lines.{rawOf}
 use Rattle.record.specs.declared.answer.Written.{Written}
 use Rattle.record.specs.declared.answer.Written.the-variants.{Bytes, Refused as Unwritten}
+use Rattle.row_calls.specs.Calls.{configOf, setupRow, eraseRow}
 use Rattle.row_calls.specs.declared.answer.Done.{Done}
 use Rattle.row_calls.specs.declared.answer.Done.the-variants.{Yes, Refused as Undone}
 use Rattle.row_counter.specs.Counter.{newest, lowBits, UnderHalf}
@@ -48,12 +50,12 @@ use Rattle.history_axis.specs.Reference.{shown, EdgeAngle, Zero, homed, zeroAng
 use Rattle.history_axis.specs.Shaft.{ShaftSample, rawAt, angleAt, turnedBy, AtMostTwo, Undisturbed}
 use Rattle.runs.specs.Told.{Told, refused, number}
 use Rattle.runs.specs.Op.{Op, reading}
-use Rattle.runs.specs.Event.{asked}
+use Rattle.runs.specs.Event.{asked, rowSince}
 use Rattle.runs.specs.Run.{Call, names, tableRun, answerIn, heard, Says}
 use Rattle.runs.specs.Refusing.{RefusesExactly}
 use Rattle.history.specs.Phase.{phaseOf, toldRow, startAxis, actsSince}
 use Rattle.history.specs.Seen.{viewTold}
-use Rattle.history.specs.Lasting.{begins}
+use Rattle.history.specs.Lasting.{erases, Unerased, heeded}
 use Rattle.history.specs.Shaft.{ShaftShown}
 use Rattle.history.specs.Reference.{zeroAfter}
 use Rattle.history.specs.Counter.{CounterReads}
@@ -61,12 +63,14 @@ use Rattle.promises.specs.Own.{events, own, toldSince}
 use Rattle.promises.specs.Agreement.{BeginAlike, EndAlike}
 use Rattle.promises.specs.Edge.{axisAfter, Following, NextSample}
 use Rattle.promises.specs.Day.{AnsweredOver}
+use Rattle.promises.specs.Full.{OnFull}
 use Rattle.promises.proofs.Refusing.{sample-says, call-says}
 use Rattle.promises.proofs.CountIsRight.{row-told, position-told, doubles-told, double-told, bits-none}
 use Rattle.promises.proofs.UserSees.{view-told}
 use Rattle.promises.proofs.Shafts.{shaft-double, shaft-position, shaft-counter, shaft-reading}
 use Rattle.promises.proofs.Edges.{edge-homed, edge-position, edge-call, edge-other, edge-next}
-use Rattle.promises.proofs.Restoring.{restores-save, saves-restored, other-layout}
+use Rattle.promises.proofs.Occupied.{keeps-all, frees, survives}
+use Rattle.promises.proofs.Restoring.{restores-save, restores-erased, saves-restored, other-layout}
 use Rattle.promises.proofs.Days.{answered-divides}
 use Rattle.promises.proofs.Apart.{ends-alike}
 use Rattle.promises.proofs.ToldAlone.{heard-told}
@@ -79,8 +83,8 @@ pub sample-refused : (t u : List ℕ) (word : ℕ) (a : Sample) → Samples t wo
     ((a ≡ Refused e) ↔ (((n : ℕ) → 1 ≤ n → n ≤ mostAxes → length t ≢ n * 4) × (e ≡ Length))) × (a ≡ Refused e → u ≡ t)
 sample-refused t u word a = sample-says t u word a
 
--- HEADLINE: a call that names an axis answers the reasons 1 to 5 exactly when their lines say; on a row that it takes it answers as one of
--- its lines in `Answers` says, the reasons 6 to 12 there; and where it is refused every word stays.
+-- HEADLINE: a call that names an axis answers the reasons 1 to 5 and 13 exactly when their lines say; on a row that it takes it answers as
+-- one of its lines in `Answers` says, the reasons 6 to 12 there; and where it is refused every word stays.
 pub call-refused : (o : Op) (t u : List ℕ) (k : ℕ) (a : Told) → Says o t k u a →
     RefusesExactly o t k a × ((e : Refusal) → a ≡ refused e → u ≡ t)
 call-refused o t u k a = call-says o t u k a
@@ -88,6 +92,16 @@ call-refused o t u k a = call-says o t u k a
 -- HEADLINE: a save that is refused keeps every byte of its buffer.
 pub save-refused : (t b d : List ℕ) (k : ℕ) (e : Refusal) → SaveMakes t k b d (Unwritten e) → d ≡ b
 save-refused t b d k e = unsaved-keeps t k b e
+
+-- HEADLINE: any number of setups, restores and looks of rows that are not empty, broken ones too, change no word of the table.
+pub occupied-kept : (t : List ℕ) (cs : List Call) → OnFull t cs → tableRun t cs ≡ t
+occupied-kept = keeps-all
+
+-- HEADLINE: and any row can be freed: an erase is done whatever it holds, and after it a setup with good arguments is done.
+pub row-freed : (t : List ℕ) (k kind depth width turn : ℕ) {u v : List ℕ} {a b : Done} → k < axesIn (length t) →
+    goodConfig kind depth width turn ≡ true → Makes eraseRow t k u a → Makes (setupRow kind depth width turn) u k v b →
+    (a ≡ Yes) × (b ≡ Yes) × (rowAt v k ≡ rowOf (fresh (configOf kind depth width turn)))
+row-freed = frees
 
 -- ---- 2. The count is right
 
@@ -106,6 +120,12 @@ module _ (t : List ℕ) (k : ℕ) (words : AllWords t) (there : k < axesIn (leng
       + numberOfE (doublesTally (startAxis (rowAt t k) (own k cs)) (actsSince (rowAt t k) (own k cs)) .moves)))
       × (viewedIn (tableRun t cs) k ≡ Shows (viewTold (startAxis (rowAt t k) (own k cs)) (actsSince (rowAt t k) (own k cs))))
   count-told cs s = (position-told t k words there cs s, doubles-told t k words there cs s, view-told t k words there cs s)
+
+  -- HEADLINE: a live axis's count survives any mix of setups, restores and looks: a row that is not empty is, after any run without an
+  -- erase of it, in all four words the row after axis k's own events with these left out.
+  pub count-survives : statusOf (rowAt t k) ≢ Empty → (cs : List Call) → Unerased (own k cs) →
+      rowAt (tableRun t cs) k ≡ rowSince (rowAt t k) (heeded (own k cs))
+  count-survives = survives t k words there
 
   -- HEADLINE: every double step is flagged: mask bit k of any sample of a run stands exactly where row k is sampled and primed and both
   -- filtered lines, A and B, change.
@@ -133,13 +153,13 @@ module _ (t : List ℕ) (k : ℕ) (words : AllWords t) (there : k < axesIn (leng
   -- HEADLINE: at depth 1, x4, with Z a function of the shaft's angle and moves of at most one quarter step: while RANGE is clear the
   -- position is the angle less that of its zero, and since a home that is an edge's angle; mask bit k stands exactly where the shaft goes
   -- over an edge's angle, either way; an armed axis is homed there, forward or backward, and has its zero there from then on; where it is
-  -- not armed, or goes over no edge, the zero stays, and so it does over every call that begins no phase but an accepted preset; and where
+  -- not armed, or goes over no edge, the zero stays, and so it does over every call but an erase and an accepted preset; and where
   -- every edge lies a whole number of turns from the one homed over, no check sets INDEX, either way.
   pub edge-followed : (z : ℤ → Bool) (cs : List Call) (b : ℤ) (o : Zero) → Following z t k cs b o →
       (axisAfter t k cs .flags .range ≡ false → positionOf (axisAfter t k cs .word) ≡ b -ℤ zeroAngle o)
       × ((a : ℤ) → o ≡ homed a → EdgeAngle z a)
       × ((word : ℕ) (c : ℤ) → rawOf (nibble word k) ≡ shown z c → Near b c → NextSample z t k cs b o word c)
-      × ((op : Op) → begins (asked op) ≡ false → Following z t k (cs ++ (names k op ∷ [])) b (zeroAfter op b o))
+      × ((op : Op) → erases (asked op) ≡ false → Following z t k (cs ++ (names k op ∷ [])) b (zeroAfter op b o))
       × ((j : ℕ) (op : Op) → j ≢ k → Following z t k (cs ++ (names j op ∷ [])) b o)
   edge-followed z cs b o on = (
     edge-position t k words there z cs on,
@@ -159,12 +179,15 @@ module _ (t : List ℕ) (k : ℕ) (words : AllWords t) (there : k < axesIn (leng
       answerIn (tableRun t cs) k (reading (lowBits (axisOf (rowAt t k) .config .width) p)) ≡ number p)
   counter-followed s cs p = (shaft-counter t k words there s cs p, λ z. shaft-reading t k words there s cs p)
 
--- HEADLINE: a restore of what a save wrote, at any axis of any table, is done, and its row is the configuration and the position saved with
--- all else 0.
-pub save-restored : (t b : List ℕ) (k n : ℕ) {d : List ℕ} → SaveMakes t k b d (Bytes n) → (u : List ℕ) (j : ℕ) {v : List ℕ} {a : Done} →
-    j < axesIn (length u) → Makes (restoreRow (take n d)) u j v a →
-    (a ≡ Yes) × (rowAt v j ≡ rowOf (freshAt (axisOf (rowAt t k) .config) (axisOf (rowAt t k) .word)))
-save-restored = restores-save
+-- HEADLINE: a restore of what a save wrote, at any empty row of any table and after an erase at any row, is done, and its row is the
+-- configuration and the position saved with all else 0.
+pub save-restored : (t b : List ℕ) (k n : ℕ) {d : List ℕ} → SaveMakes t k b d (Bytes n) → (u : List ℕ) (j : ℕ) → j < axesIn (length u) →
+    ((v : List ℕ) (a : Done) → statusOf (rowAt u j) ≡ Empty → Makes (restoreRow (take n d)) u j v a →
+    (a ≡ Yes) × (rowAt v j ≡ rowOf (freshAt (axisOf (rowAt t k) .config) (axisOf (rowAt t k) .word))))
+    × ((v w : List ℕ) (a c : Done) → Makes eraseRow u j v a → Makes (restoreRow (take n d)) v j w c →
+    (a ≡ Yes) × (c ≡ Yes) × (rowAt w j ≡ rowOf (freshAt (axisOf (rowAt t k) .config) (axisOf (rowAt t k) .word))))
+save-restored t b k n saves u j there =
+    (λ v a. restores-save t b k n saves u j there, λ v w a c. restores-erased t b k n saves u j there)
 
 -- HEADLINE: a record that was accepted, saved again, is the same bytes, with nothing beyond them touched.
 pub restore-saved : (s t u : List ℕ) (k : ℕ) → AllBytes s → Makes (restoreRow s) t k u Yes → (b : List ℕ) {d : List ℕ} {a : Written} →

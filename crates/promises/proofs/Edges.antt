@@ -20,7 +20,7 @@ use Rattle.history_axis.specs.Reference.{shown, EdgeAngle, Zero, set, homed, ze
 use Rattle.runs.specs.Op.{Op, changes, restore, reading, looks}
 use Rattle.runs.specs.Event.{Event, bits, asked, rowSince}
 use Rattle.runs.specs.Run.{Call, port, names, tableRun}
-use Rattle.history.specs.Lasting.{begins}
+use Rattle.history.specs.Lasting.{erases}
 use Rattle.history.specs.Reference.{OnShaft, zeroAfter}
 use Rattle.history.proofs.ReferenceHistory.{first-row, position-follows-row, call-row, edge-bit-row, home-row, unarmed-row}
 use Rattle.history.proofs.ReferenceHistory.{passed-row, homed-edge-row, check-row}
@@ -59,19 +59,19 @@ module _ (t : List ℕ) (k : ℕ) (words : AllWords t) (h : k < axesIn (length t
         ap (λ (r : Row). positionOf (r .w0)) now
         ∙ position-follows-row (first-words t k words h cs) on (sym (ap (λ (r : Row). axisOf r .flags .range) now) ∙ clear)
 
-    -- A call on the axis that begins no phase keeps it on the shaft, and only an accepted preset moves its zero; one on another axis
+    -- A call on the axis that is no erase keeps it on the shaft, and only an accepted preset moves its zero; one on another axis
     -- changes nothing.
-    pub edge-call : (op : Op) → begins (asked op) ≡ false → Following z t k (cs ++ (names k op ∷ [])) b (zeroAfter op b o)
-    unfolding seen begins zeroAfter
+    pub edge-call : (op : Op) → erases (asked op) ≡ false → Following z t k (cs ++ (names k op ∷ [])) b (zeroAfter op b o)
+    unfolding seen erases zeroAfter
     edge-call op e =
         subst (λ (g : List Event). OnShaft z (rowAt t k) g b (zeroAfter op b o)) (sym (own-named k cs op))
-        (rw (seen-zero op) at (call-row (first-words t k words h cs) on (seen op) (seen-begins op ∙ e)))
+        (rw (seen-zero op) at (call-row (first-words t k words h cs) on (seen op) (seen-erases op ∙ e)))
       where
-        seen-begins : (op : Op) → begins (asked (seen op)) ≡ begins (asked op)
-        seen-begins (changes c) = refl
-        seen-begins (restore bytes) = refl
-        seen-begins (reading x) = refl
-        seen-begins (looks l) = refl
+        seen-erases : (op : Op) → erases (asked (seen op)) ≡ erases (asked op)
+        seen-erases (changes c) = refl
+        seen-erases (restore bytes) = refl
+        seen-erases (reading x) = refl
+        seen-erases (looks l) = refl
 
         seen-zero : (op : Op) → zeroAfter (seen op) b o ≡ zeroAfter op b o
         seen-zero (changes c) = refl

@@ -7,6 +7,7 @@ pub mod Apart
 pub mod CountIsRight
 pub mod ToldAlone
 pub mod Restoring
+pub mod Occupied
 pub mod LazyPrograms
 pub mod Asked
 pub mod Shafts

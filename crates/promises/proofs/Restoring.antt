@@ -7,6 +7,8 @@ use native.Mathlib.Omega.{arith}
 use lib.ListN.{length, take, drop}
 use Rattle.refusal.specs.declared.Refusal.the-variants.{Layout}
 use Rattle.axis.specs.Row.{axisOf, rowOf, freshAt}
+use Rattle.axis_sound.specs.Sound.{statusOf}
+use Rattle.axis_sound.specs.declared.Status.the-variants.{Empty}
 use Rattle.tagged.specs.Bytes.{AllBytes, bytesOf}
 use Rattle.tagged.specs.Field.{fieldBytes}
 use Rattle.record.specs.Record.{readAs}
@@ -15,7 +17,7 @@ use Rattle.record.specs.declared.answer.Read.the-variants.{Accepted, Refused as
 use Rattle.record.specs.declared.answer.Written.{Written}
 use Rattle.record.specs.declared.answer.Written.the-variants.{Bytes, Refused as Unwritten}
 use Rattle.record.proofs.RecordLaws.{layout-refused}
-use Rattle.row_calls.specs.Calls.{setupRow, presetRow, andThen}
+use Rattle.row_calls.specs.Calls.{setupRow, eraseRow, presetRow, andThen}
 use Rattle.row_calls.specs.declared.answer.Changed.the-variants.{To, Kept}
 use Rattle.row_calls.specs.declared.answer.Done.{Done}
 use Rattle.row_calls.specs.declared.answer.Done.the-variants.{Yes, Refused as Undone}
@@ -30,8 +32,9 @@ use Rattle.table_change.specs.Making.{Makes, ruled, tableAfter}
 use Rattle.table_change.proofs.MakingLaws.{makes-spares, done-makes, replaced}
 use Rattle.table.specs.Call.{SaveMakes}
 use Rattle.runs.proofs.CallLaws.{ruled-is}
+use Rattle.promises.proofs.Occupied.{erase-frees}
 
--- A restore that is accepted makes of the named row, whatever it held, broken too, what a setup with the record's configuration and then a
+-- A restore of a record that is accepted makes of the named row, empty or not, what a setup with the record's configuration and then a
 -- preset to its position make.
 pub restore-sets-up : (t : List ℕ) (k : ℕ) → k < axesIn (length t) → (s : List ℕ) (said : Saved) → readAs s ≡ Accepted said →
     ruled (restoreRow s) t k
@@ -49,19 +52,29 @@ saved-there t b k n {d} w = go (located t k) refl (sym (w .answer)) (w .buffer)
     go (Refused e) q a f = absurd (let z : _≡_ {A = ℕ} 0 1 = cc in omega arith)
     go (At r) q a f = let p = found t k r q in rw (p .1) (a, f)
 
--- A restore of what any save wrote, into any table at any axis that is there, is done, and makes of that row the saved configuration and
--- position with all else 0.
+-- A restore of what any save wrote, into any table at any axis that is there and empty, is done, and makes of that row the saved
+-- configuration and position with all else 0.
 pub restores-save : (t b : List ℕ) (k n : ℕ) {d : List ℕ} → SaveMakes t k b d (Bytes n) → (u : List ℕ) (j : ℕ) {v : List ℕ} {a : Done} →
-    j < axesIn (length u) → Makes (restoreRow (take n d)) u j v a →
+    j < axesIn (length u) → statusOf (rowAt u j) ≡ Empty → Makes (restoreRow (take n d)) u j v a →
     (a ≡ Yes) × (rowAt v j ≡ rowOf (freshAt (axisOf (rowAt t k) .config) (axisOf (rowAt t k) .word)))
-restores-save t b k n {d} saves u j there w =
+restores-save t b k n {d} saves u j there empty w =
     let p = saved-there t b k n saves in
     let row = rowOf (freshAt (axisOf (rowAt t k) .config) (axisOf (rowAt t k) .word)) in
     let made : ruled (restoreRow (take n d)) u j ≡ To row =
     ruled-is u j there (restoreRow (take n d))
     ∙ ap (λ (x : List ℕ). restoreRow (take n x) (rowAt u j)) (p .1)
-    ∙ restored-save b n (rowAt t k) (rowAt u j) (p .0) in
+    ∙ restored-save b n (rowAt t k) (rowAt u j) (p .0) empty in
     (w .answer ∙ rw made, rw (w .table, made) (replaced (restoreRow (take n d)) u j row made .2))
+
+-- After an erase it is so on any row: on the one that was saved, and on any other.
+pub restores-erased : (t b : List ℕ) (k n : ℕ) {d : List ℕ} → SaveMakes t k b d (Bytes n) →
+    (u : List ℕ) (j : ℕ) {v w : List ℕ} {a c : Done} →
+    j < axesIn (length u) → Makes eraseRow u j v a → Makes (restoreRow (take n d)) v j w c →
+    (a ≡ Yes) × (c ≡ Yes) × (rowAt w j ≡ rowOf (freshAt (axisOf (rowAt t k) .config) (axisOf (rowAt t k) .word)))
+restores-erased t b k n saves u j {v} there erases restores =
+    let e = erase-frees u j there erases in
+    let r = restores-save t b k n saves v j (e .1) (e .2) restores in
+    (e .0, r .0, r .1)
 
 -- A save after a restore that was accepted answers the length of the record and writes the same bytes, into any buffer with room for them,
 -- and nothing beyond.
