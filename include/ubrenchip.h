@@ -25,8 +25,8 @@ extern "C" {
 #endif
 
 /* The version of calls, rows, records and this header; CHANGELOG.md has its rule. */
-#define UBRENCHIP_VERSION "3.0.0"
-#define UBRENCHIP_VERSION_MAJOR 3
+#define UBRENCHIP_VERSION "4.0.0"
+#define UBRENCHIP_VERSION_MAJOR 4
 #define UBRENCHIP_VERSION_MINOR 0
 #define UBRENCHIP_VERSION_PATCH 0
 
@@ -70,7 +70,8 @@ enum ubrenchip_refusal {
     UBRENCHIP_NO_PERIOD = 9, /* the last two steps give no period: see ubrenchip_speed_by_period */
     UBRENCHIP_ROOM = 10,     /* the buffer is too small */
     UBRENCHIP_LAYOUT = 11,   /* a record of another layout, whose number is in `found` */
-    UBRENCHIP_RECORD = 12    /* not a record, or a misshapen one */
+    UBRENCHIP_RECORD = 12,   /* not a record, or a misshapen one */
+    UBRENCHIP_OCCUPIED = 13  /* the row is not empty: erase it first */
 };
 
 /* What most calls answer. On a refusal the value is 0; `found` is 0 but for LAYOUT. */
@@ -127,7 +128,9 @@ ubrenchip_answer ubrenchip_test_record(const uint8_t *record, size_t length);
  *
  * A table is 4n words for n axes, n from 1 to 16, zeroed at first: every axis is then empty. `words` is
  * the number of words. The calls that name an axis refuse LENGTH, then AXIS, then BROKEN and EMPTY
- * (setup, erase and restore never do), then KIND, and then what each names below.
+ * (setup, erase and restore never do), then KIND, and then what each names below, in that order.
+ * Setup and restore put an axis into an empty row alone, one whose four words are all 0. Any other row is
+ * OCCUPIED, a broken one too. Erase empties any row, and is the only call that does.
  */
 
 /*
@@ -151,14 +154,15 @@ typedef struct ubrenchip_sampled {
 ubrenchip_sampled ubrenchip_sample(uint64_t *table, size_t words, uint64_t port);
 
 /*
- * Sets an axis up anew, whatever the row held. Kinds 1, 2 and 4 (x1, x2, x4): depth 1 to 8, width 0,
+ * Sets an axis up in an empty row, at position 0. Kinds 1, 2 and 4 (x1, x2, x4): depth 1 to 8, width 0,
  * counts per turn 0 to 2^32 - 1, 0 for no index check. Kind 8 (a narrow counter): width 2 to 32, depth 0,
- * counts per turn 0. Refusal: VALUE.
+ * counts per turn 0. Refusals, in this order: OCCUPIED, VALUE. A row that is not empty is OCCUPIED, a
+ * broken one too: erase it first.
  */
 ubrenchip_answer ubrenchip_setup(uint64_t *table, size_t words, uint64_t axis, uint64_t kind, uint64_t depth,
                                  uint64_t width, uint64_t turn);
 
-/* Empties a row, whatever it held. */
+/* Empties a row, whatever it held: an axis, which is lost with its count, a broken row, or nothing. */
 ubrenchip_answer ubrenchip_erase(uint64_t *table, size_t words, uint64_t axis);
 
 /* Sets the position and clears RANGE and HOMED; sampled axes and counters. Refusal: VALUE. */
@@ -207,7 +211,11 @@ ubrenchip_speed ubrenchip_speed_by_period(const uint64_t *table, size_t words, u
 /* Saves an axis's configuration and position as a record, 34 or 27 bytes, whose number is answered. Refusal: ROOM. */
 ubrenchip_answer ubrenchip_save(const uint64_t *table, size_t words, uint64_t axis, uint8_t *buffer, size_t length);
 
-/* Sets an axis up from a whole record, whatever the row held. Refusals: those of ubrenchip_test_record. */
+/*
+ * Sets an axis up in an empty row from a whole record, as a setup and then a preset would. Refusals, in this
+ * order: those of ubrenchip_test_record, OCCUPIED. A row that is not empty is OCCUPIED, a broken one too:
+ * erase it first. A record that is refused anywhere has its own reason here, whatever the row holds.
+ */
 ubrenchip_answer ubrenchip_restore(uint64_t *table, size_t words, uint64_t axis, const uint8_t *record,
                                    size_t length);
 

@@ -63,7 +63,7 @@ static inline void holds(const char *what, int right)
 /* The number of the program's exit: 1 where a check was wrong or a refusal of `all` was never answered. */
 static int verdict(const char *name, unsigned all)
 {
-    for (unsigned n = 0; n < 13; n++) {
+    for (unsigned n = 0; n <= UBRENCHIP_OCCUPIED; n++) {
         if ((all & ~given) >> n & 1) {
             printf("%s: refusal %u was never answered\n", name, n);
             return 1;

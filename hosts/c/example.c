@@ -1,4 +1,4 @@
-/* Two axles on one port: sampled, looked at, and one of them saved and restored. */
+/* Two axles on one port: sampled, looked at, and one of them saved and restored in the other's row. */
 #include <stdio.h>
 #include "ubrenchip.h"
 
@@ -40,6 +40,8 @@ int main(void)
     uint8_t record[UBRENCHIP_RECORD_BYTES_SAMPLED];
     ubrenchip_answer saved = ubrenchip_save(table, WORDS, 0, record, sizeof record);
     if (!done("save", saved.refusal))
+        return 1;
+    if (!done("erase", ubrenchip_erase(table, WORDS, 1).refusal)) /* a restore takes an empty row alone */
         return 1;
     ubrenchip_answer restored = ubrenchip_restore(table, WORDS, 1, record, (size_t)saved.value);
     if (restored.refusal == UBRENCHIP_LAYOUT)

@@ -3,10 +3,11 @@
 
 static uint64_t table[UBRENCHIP_WORDS_A_ROW * (UBRENCHIP_MOST_AXES + 1)];
 
-/* Sets axis 0 of one up: done where it should be. */
+/* Sets axis 0 of one up in its erased row: done where it should be. */
 static void setup(const char *what, uint64_t kind, uint64_t depth, uint64_t width, uint64_t turn, int fits)
 {
     uint32_t refusal = fits ? UBRENCHIP_DONE : UBRENCHIP_VALUE;
+    expect("erase", ubrenchip_erase(table, UBRENCHIP_WORDS_A_ROW, 0), UBRENCHIP_DONE, 0, 0);
     expect(what, ubrenchip_setup(table, UBRENCHIP_WORDS_A_ROW, 0, kind, depth, width, turn), refusal, 0, 0);
 }
 

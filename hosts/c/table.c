@@ -24,6 +24,56 @@ static const uint8_t saved[34] = {0x01, 0x00, 0x02, 0x00, 0x01, 0x02, 0x00, 0x01
 static const uint8_t saved_counter[27] = {0x01, 0x00, 0x02, 0x00, 0x01, 0x02, 0x00, 0x01, 0x08, 0x03, 0x00, 0x08, 0x00, 0x00,
                                           0x00, 0x00, 0x00, 0x00, 0x00, 0x63, 0x05, 0x00, 0x01, 0x0C, 0x7F, 0x00, 0x00};
 
+/* The saved record with one byte changed, at a length, and why it is refused. */
+typedef struct flawed_record {
+    const char *what;
+    unsigned at;
+    uint8_t to;
+    unsigned length;
+    uint32_t refusal, found;
+} flawed_record;
+
+static const flawed_record flawed[] = {
+    {"one byte short", 0, 0x01, 33, UBRENCHIP_RECORD, 0},
+    {"one byte more", 0, 0x01, 35, UBRENCHIP_RECORD, 0},
+    {"no bytes", 0, 0x01, 0, UBRENCHIP_RECORD, 0},
+    {"another end", 31, 0x7E, 34, UBRENCHIP_RECORD, 0},
+    {"kind 3", 8, 0x03, 34, UBRENCHIP_VALUE, 0},
+    {"depth 9", 23, 0x09, 34, UBRENCHIP_VALUE, 0},
+    {"a position outside its range", 12, 0xBF, 34, UBRENCHIP_VALUE, 0},
+    {"layout 0x1201", 3, 0x12, 34, UBRENCHIP_LAYOUT, 0x1201},
+    {"layout 0, five bytes", 4, 0x00, 5, UBRENCHIP_LAYOUT, 0},
+};
+
+/* What a setup takes, and whether it fits, so that it is done in an empty row. The first two are those of the records above. */
+typedef struct configuration {
+    const char *what;
+    uint64_t kind, depth, width, turn;
+    int fits;
+} configuration;
+
+static const configuration configurations[] = {
+    {"x4, depth 3, 4096 a turn", 4, 3, 0, 4096, 1},
+    {"counter of width 12", 8, 0, 12, 0, 1},
+    {"x2, depth 1, no check", 2, 1, 0, 0, 1},
+    {"x1, depth 8, 2^32 - 1 a turn", 1, 8, 0, UINT32_MAX, 1},
+    {"counter of width 2", 8, 0, 2, 0, 1},
+    {"counter of width 32", 8, 0, 32, 0, 1},
+    {"depth 9", 4, 9, 0, 4096, 0},
+    {"depth 0", 4, 0, 0, 4096, 0},
+    {"x4 with a width", 4, 3, 8, 4096, 0},
+    {"2^32 a turn", 4, 3, 0, (uint64_t)UINT32_MAX + 1, 0},
+    {"kind 0", 0, 0, 0, 0, 0},
+    {"kind 3", 3, 3, 0, 4096, 0},
+    {"kind 256 + 4", 260, 3, 0, 4096, 0},
+    {"width 1", 8, 0, 1, 0, 0},
+    {"width 33", 8, 0, 33, 0, 0},
+    {"counter with a depth", 8, 1, 32, 0, 0},
+    {"counter with a turn", 8, 0, 32, 1, 0},
+};
+
+#define COUNT(list) (sizeof(list) / sizeof(list)[0])
+
 /* Word 0 at a position. */
 static uint64_t at(int64_t position)
 {
@@ -139,6 +189,90 @@ static void empty(void)
         table[i] = 0;
 }
 
+/* ---- setups and restores, into rows that are empty or not */
+
+static ubrenchip_answer set_up(unsigned axis, const configuration *to)
+{
+    return ubrenchip_setup(table, WORDS, axis, to->kind, to->depth, to->width, to->turn);
+}
+
+static ubrenchip_answer restore_saved(unsigned axis)
+{
+    return ubrenchip_restore(table, WORDS, axis, saved, sizeof saved);
+}
+
+static ubrenchip_answer restore_counter(unsigned axis)
+{
+    return ubrenchip_restore(table, WORDS, axis, saved_counter, sizeof saved_counter);
+}
+
+/* The row of a new axis at a position. */
+static void newly(const char *what, unsigned axis, const configuration *to, int64_t position)
+{
+    row(what, axis, at(position), to->kind | to->depth << 4 | to->width << 8, 0, to->turn);
+}
+
+/* A restore from a flawed record: refused for its flaw, whatever the row holds. */
+static void restore_flawed(unsigned axis, const flawed_record *by)
+{
+    uint8_t record[35] = {0};
+    for (unsigned i = 0; i < sizeof saved; i++)
+        record[i] = i == by->at ? by->to : saved[i];
+    expect(by->what, ubrenchip_restore(table, WORDS, axis, record, by->length), by->refusal, by->found, 0);
+}
+
+/* What is refused in any row, and changes no word: setups that do not fit, for this reason, and flawed records, for their own. */
+static void refused_in_any(unsigned axis, uint32_t refusal)
+{
+    remember();
+    for (unsigned i = 0; i < COUNT(configurations); i++) {
+        if (!configurations[i].fits)
+            refused(configurations[i].what, set_up(axis, &configurations[i]), refusal);
+    }
+    for (unsigned i = 0; i < COUNT(flawed); i++)
+        restore_flawed(axis, &flawed[i]);
+    refused("no record", ubrenchip_restore(table, WORDS, axis, NULL, 0), UBRENCHIP_RECORD);
+    kept("refused setups and restores");
+}
+
+/* Holds a row to be occupied: no setup is done there, whatever it asks for, and no restore, and no word changes. */
+static void occupied(const char *what, unsigned axis)
+{
+    refused_in_any(axis, UBRENCHIP_OCCUPIED);
+    for (unsigned i = 0; i < COUNT(configurations); i++) {
+        if (configurations[i].fits)
+            refused(what, set_up(axis, &configurations[i]), UBRENCHIP_OCCUPIED);
+    }
+    refused(what, restore_saved(axis), UBRENCHIP_OCCUPIED);
+    refused(what, restore_counter(axis), UBRENCHIP_OCCUPIED);
+    kept(what);
+}
+
+/* A new axis that was made in an empty row: the row is erased again. */
+static void made(const char *what, ubrenchip_answer got, unsigned axis, const configuration *to, int64_t position)
+{
+    done(what, got);
+    newly(what, axis, to, position);
+    done("erase", ubrenchip_erase(table, WORDS, axis));
+}
+
+/* Erases a row, which frees it: a setup that fits is done there, and so is the restore of a good record. It is left empty, and no other
+   row changes. */
+static void freed(const char *what, unsigned axis)
+{
+    done(what, ubrenchip_erase(table, WORDS, axis));
+    row(what, axis, 0, 0, 0, 0);
+    others_kept(what, axis);
+    refused_in_any(axis, UBRENCHIP_VALUE);
+    for (unsigned i = 0; i < COUNT(configurations); i++) {
+        if (configurations[i].fits)
+            made(configurations[i].what, set_up(axis, &configurations[i]), axis, &configurations[i], 0);
+    }
+    made(what, restore_saved(axis), axis, &configurations[0], -2);
+    made(what, restore_counter(axis), axis, &configurations[1], 99);
+    kept(what);
+}
+
 /* Samples in which nothing is to be marked. */
 static void quiet(const char *what, unsigned shift, const uint8_t *codes, unsigned count)
 {
@@ -157,22 +291,13 @@ static void setting_up(void)
     row("row after", 2, 0, 0, 0, 0);
     done("setup of a counter", ubrenchip_setup(table, WORDS, 3, 8, 0, 32, 0));
     row("counter of width 32", 3, (uint64_t)TOP + 1, 8 | 32 << 8, 0, 0);
-    remember();
-    refused("depth 9", ubrenchip_setup(table, WORDS, 1, 4, 9, 0, 4096), UBRENCHIP_VALUE);
-    refused("depth 0", ubrenchip_setup(table, WORDS, 1, 4, 0, 0, 4096), UBRENCHIP_VALUE);
-    refused("x4 with a width", ubrenchip_setup(table, WORDS, 1, 4, 3, 8, 4096), UBRENCHIP_VALUE);
-    refused("2^32 a turn", ubrenchip_setup(table, WORDS, 1, 4, 3, 0, (uint64_t)UINT32_MAX + 1), UBRENCHIP_VALUE);
-    refused("kind 3", ubrenchip_setup(table, WORDS, 1, 3, 3, 0, 4096), UBRENCHIP_VALUE);
-    refused("kind 256 + 4", ubrenchip_setup(table, WORDS, 1, 260, 3, 0, 4096), UBRENCHIP_VALUE);
-    refused("width 1", ubrenchip_setup(table, WORDS, 3, 8, 0, 1, 0), UBRENCHIP_VALUE);
-    refused("width 33", ubrenchip_setup(table, WORDS, 3, 8, 0, 33, 0), UBRENCHIP_VALUE);
-    refused("counter with a depth", ubrenchip_setup(table, WORDS, 3, 8, 1, 32, 0), UBRENCHIP_VALUE);
-    refused("counter with a turn", ubrenchip_setup(table, WORDS, 3, 8, 0, 32, 1), UBRENCHIP_VALUE);
-    kept("refused setups");
+    refused_in_any(2, UBRENCHIP_VALUE);
     done("2^32 - 1 a turn", ubrenchip_setup(table, WORDS, 2, 1, 8, 0, UINT32_MAX));
     row("2^32 - 1 a turn", 2, (uint64_t)TOP + 1, 1 | 8 << 4, 0, UINT32_MAX);
-    done("counter of width 2", ubrenchip_setup(table, WORDS, 2, 8, 0, 2, 0));
-    row("counter of width 2", 2, at(0), 8 | 2 << 8, 0, 0);
+    done("counter of width 2", ubrenchip_setup(table, WORDS, 0, 8, 0, 2, 0));
+    row("counter of width 2", 0, at(0), 8 | 2 << 8, 0, 0);
+    for (unsigned i = 0; i < AXES; i++)
+        occupied("a new axis", i);
     done("erase", ubrenchip_erase(table, WORDS, 1));
     row("erased row", 1, 0, 0, 0, 0);
     done("erase of an empty row", ubrenchip_erase(table, WORDS, 1));
@@ -311,6 +436,7 @@ static void either_side(void)
         for (unsigned i = 0; i < 4; i++)
             ports[i] = (codes[edge + i] | (i == 1 || i == 2 ? 4u : 0)) * 0x111111;
         for (unsigned i = 0; i < 6; i++) {
+            done("erase", ubrenchip_erase(all, 24, i));
             done("setup", ubrenchip_setup(all, 24, i, kinds[i], 1, 0, kinds[i]));
             done("preset", ubrenchip_preset(all, 24, i, 1000));
         }
@@ -604,18 +730,16 @@ static void saving(void)
     written("34 bytes, and none beyond", buffer, sizeof buffer, saved, sizeof saved);
     kept("saves");
     done("the record is one", ubrenchip_test_record(buffer, 34));
-    table[12] = UINT64_MAX;
-    done("restore over anything", ubrenchip_restore(table, WORDS, 3, buffer, 34));
+    done("restore", ubrenchip_restore(table, WORDS, 3, buffer, 34));
     row("as setup and preset", 3, (uint64_t)TOP - 1, 52, 0, 4096);
     row("the axis that was saved", 0, (uint64_t)TOP - 1, 52, 0, 4096);
-    remember();
-    refused("one byte short", ubrenchip_restore(table, WORDS, 3, buffer, 33), UBRENCHIP_RECORD);
-    refused("no bytes", ubrenchip_restore(table, WORDS, 3, NULL, 0), UBRENCHIP_RECORD);
+    occupied("the row of a restore", 3);
     buffer[23] = 9;
-    refused("depth 9", ubrenchip_restore(table, WORDS, 3, buffer, 34), UBRENCHIP_VALUE);
     buffer[3] = 0x12;
     buffer[4] = 0x34;
-    expect("layout 0x1234", ubrenchip_restore(table, WORDS, 3, buffer, 34), UBRENCHIP_LAYOUT, 0x1234, 0);
+    remember();
+    for (unsigned i = 2; i < AXES; i++)
+        expect("layout 0x1234, depth 9", ubrenchip_restore(table, WORDS, i, buffer, 34), UBRENCHIP_LAYOUT, 0x1234, 0);
     kept("refused restores");
     done("setup of a counter", ubrenchip_setup(table, WORDS, 1, 8, 0, 12, 0));
     done("preset", ubrenchip_preset(table, WORDS, 1, 99));
@@ -625,6 +749,7 @@ static void saving(void)
     value("27 bytes", ubrenchip_save(table, WORDS, 1, buffer, sizeof buffer), 27);
     written("27 bytes, and none beyond", buffer, sizeof buffer, saved_counter, sizeof saved_counter);
     value("27 bytes in 27", ubrenchip_save(table, WORDS, 1, buffer, 27), 27);
+    done("erase", ubrenchip_erase(table, WORDS, 0));
     done("restore", ubrenchip_restore(table, WORDS, 0, buffer, 27));
     shows("counter again", ubrenchip_view(table, WORDS, 0), (ubrenchip_viewed){.position = 99, .kind = 8});
     row("counter again", 0, table[4], table[5], table[6], table[7]);
@@ -681,16 +806,16 @@ static void one_row(void)
     busy(ARMED | RANGE | INDEX);
     leaves("preset", ubrenchip_preset(table, WORDS, 1, 0), 0, at(0), STATE | ARMED | INDEX | DOUBLES, PACE, 4096);
     busy(ARMED | RANGE | INDEX);
-    leaves("setup over an axis", ubrenchip_setup(table, WORDS, 1, 2, 1, 0, 8), 0, at(0), 2 | 1 << 4, 0, 8);
-    busy(ARMED | RANGE | INDEX);
-    leaves("restore over an axis", ubrenchip_restore(table, WORDS, 1, saved, sizeof saved), 0, at(-2), 52, 0, 4096);
-    busy(ARMED | RANGE | INDEX);
+    occupied("a busy axis", 1);
     leaves("erase of an axis", ubrenchip_erase(table, WORDS, 1), 0, 0, 0, 0, 0);
+    leaves("setup after it", ubrenchip_setup(table, WORDS, 1, 2, 1, 0, 8), 0, at(0), 2 | 1 << 4, 0, 8);
+    leaves("erase of a new axis", ubrenchip_erase(table, WORDS, 1), 0, 0, 0, 0, 0);
+    leaves("restore after it", restore_saved(1), 0, at(-2), 52, 0, 4096);
     busy(ARMED | HOMED);
-    leaves("setup over a broken row", ubrenchip_setup(table, WORDS, 1, 8, 0, 8, 0), 0, at(0), 8 | 8 << 8, 0, 0);
-    leaves("reading", ubrenchip_reading(table, WORDS, 1, 255), -1, at(-1), 8 | 8 << 8, 0, 0);
-    busy(ARMED | HOMED);
+    occupied("a broken row", 1);
     leaves("erase of a broken row", ubrenchip_erase(table, WORDS, 1), 0, 0, 0, 0, 0);
+    leaves("setup after it", ubrenchip_setup(table, WORDS, 1, 8, 0, 8, 0), 0, at(0), 8 | 8 << 8, 0, 0);
+    leaves("reading", ubrenchip_reading(table, WORDS, 1, 255), -1, at(-1), 8 | 8 << 8, 0, 0);
 }
 
 /* ---- the refusals that every call shares */
@@ -749,6 +874,125 @@ static void refusals(void)
     kept("refused calls");
 }
 
+/* ---- rows that are not empty */
+
+/* Each single bit of an otherwise empty row, beside a counter, a broken row and an axis that has run; and then these three. */
+static void not_empty(void)
+{
+    four_rows();
+    for (unsigned bit = 0; bit < 256; bit++) {
+        table[4 + bit / 64] = (uint64_t)1 << bit % 64;
+        occupied("one bit", 1);
+        freed("one bit", 1);
+    }
+    for (unsigned i = 0; i < AXES; i++) {
+        if (i != 1)
+            occupied("a counter, a broken row, an axis that has run", i);
+        freed("a counter, an empty row, a broken row, an axis that has run", i);
+    }
+}
+
+/* Axes of every configuration, which have moved: saved and erased, each is restored in its own row, and in another. */
+static void moved_out(void)
+{
+    static const uint8_t codes[] = {0, 1, 3, 2, 6, 7};
+    uint8_t record[UBRENCHIP_RECORD_BYTES_SAMPLED];
+    for (unsigned n = 0; n < COUNT(configurations); n++) {
+        const configuration *to = &configurations[n];
+        if (!to->fits)
+            continue;
+        empty();
+        done(to->what, set_up(1, to));
+        done("preset", ubrenchip_preset(table, WORDS, 1, -1000));
+        for (unsigned i = 0; i < 60; i++)
+            ubrenchip_sample(table, WORDS, (uint64_t)codes[i / 10] << 4);
+        if (to->kind == 8)
+            ubrenchip_reading(table, WORDS, 1, 1);
+        const int64_t position = ubrenchip_view(table, WORDS, 1).position;
+        holds("it has moved", position != -1000);
+        const ubrenchip_answer length = ubrenchip_save(table, WORDS, 1, record, sizeof record);
+        value("save", length, to->kind == 8 ? UBRENCHIP_RECORD_BYTES_COUNTER : UBRENCHIP_RECORD_BYTES_SAMPLED);
+        remember();
+        refused("its own record", ubrenchip_restore(table, WORDS, 1, record, (size_t)length.value), UBRENCHIP_OCCUPIED);
+        kept("its own record");
+        done("erase", ubrenchip_erase(table, WORDS, 1));
+        for (unsigned i = 1; i < 3; i++) {
+            done("restore", ubrenchip_restore(table, WORDS, i, record, (size_t)length.value));
+            newly(to->what, i, to, position);
+        }
+    }
+}
+
+/* A number below a limit: the same each time that the program runs. */
+static unsigned below(unsigned limit)
+{
+    static uint64_t state = 1;
+    state = state * 6364136223846793005 + 1442695040888963407;
+    return (unsigned)((state >> 33) % limit);
+}
+
+/* A setup, a restore or a look on any of the axes. The last alone can be empty: there a setup and a restore may be done, and there alone
+   an erase is made. */
+static void meddle(void)
+{
+    const unsigned axis = below(AXES);
+    const configuration *to = &configurations[below(COUNT(configurations))];
+    const int live = axis < 3 || table[4 * axis + 1] != 0;
+    uint8_t buffer[UBRENCHIP_RECORD_BYTES_SAMPLED];
+    switch (below(7)) {
+    case 0:
+        expect("a setup", set_up(axis, to), live ? UBRENCHIP_OCCUPIED : to->fits ? UBRENCHIP_DONE : UBRENCHIP_VALUE, 0, 0);
+        break;
+    case 1:
+        expect("a restore", restore_saved(axis), live ? UBRENCHIP_OCCUPIED : UBRENCHIP_DONE, 0, 0);
+        break;
+    case 2:
+        restore_flawed(axis, &flawed[below(COUNT(flawed))]);
+        break;
+    case 3:
+        same("looked at", ubrenchip_view(table, WORDS, axis).refusal, live ? UBRENCHIP_DONE : UBRENCHIP_EMPTY);
+        break;
+    case 4:
+        ubrenchip_speed_by_period(table, WORDS, axis, 1000);
+        break;
+    case 5:
+        ubrenchip_save(table, WORDS, axis, buffer, sizeof buffer);
+        break;
+    default:
+        done("erase of the last", ubrenchip_erase(table, WORDS, 3));
+    }
+}
+
+/* Two tables with the same three axes, on one port and with the same readings. One is meddled with between the samples, the other is not.
+   After every sample the three stand alike in both, and the samples and readings answer the same of them. */
+static void meddled_with(void)
+{
+    static const uint64_t codes[4] = {0, 1, 3, 2};
+    uint64_t alone[WORDS] = {0}, count = 0;
+    unsigned angles[2] = {0, 0};
+    empty();
+    done("setup of x4", ubrenchip_setup(table, WORDS, 0, 4, 1, 0, 4));
+    done("arm", ubrenchip_arm(table, WORDS, 0));
+    done("setup of a counter", ubrenchip_setup(table, WORDS, 1, 8, 0, 8, 0));
+    done("setup of x2", ubrenchip_setup(table, WORDS, 2, 2, 2, 0, 0));
+    for (unsigned i = 0; i < WORDS; i++)
+        alone[i] = table[i];
+    for (unsigned n = 0; n < 5000; n++) {
+        for (unsigned i = below(5); i > 0; i--)
+            meddle();
+        for (unsigned i = 0; i < 2; i++)
+            angles[i] += 7 + below(3) + (below(50) == 0); /* of 8: a step back, none or one forward, or now and then one more */
+        count += 129 + below(255);                        /* of 256: less than half a turn either way */
+        const uint64_t port = codes[angles[0] % 4] | (angles[0] % 8 < 3 ? 4u : 0) | codes[angles[1] % 4] << 8 | (uint64_t)below(16) << 12;
+        const ubrenchip_sampled got = ubrenchip_sample(table, WORDS, port), stated = ubrenchip_sample(alone, WORDS, port);
+        sampled("meddled with", (ubrenchip_sampled){got.refusal, got.found, got.doubles & 7, got.index & 7, got.broken & 7}, stated);
+        value("meddled with", ubrenchip_reading(table, WORDS, 1, count & 255), ubrenchip_reading(alone, WORDS, 1, count & 255).value);
+        for (unsigned i = 0; i < 12; i++)
+            same("meddled with", table[i], alone[i]);
+    }
+    holds("the axes have moved", ubrenchip_view(alone, WORDS, 0).homed && alone[0] != at(0) && alone[4] != at(0) && alone[8] != at(0));
+}
+
 static void sixteen_axes(void)
 {
     static uint64_t all[68];
@@ -783,6 +1027,9 @@ int main(void)
     saving();
     one_row();
     refusals();
+    not_empty();
+    moved_out();
+    meddled_with();
     sixteen_axes();
-    return verdict("the calls on a table", 0x1FFE);
+    return verdict("the calls on a table", 0x3FFE);
 }

@@ -47,7 +47,7 @@ fn main() -> ExitCode {
         eprintln!("usage: compare [--faults] [--seed N] [--calls N]");
         return ExitCode::from(2);
     };
-    let sane = Reference { fault: Fault::None };
+    let sane = Reference::new(Fault::None);
     readings::readings(&mut |call, memory| plain(&sane, call, memory));
     random_rows(options.seed);
     let well = if options.faults { all_faults_found(&options) } else { no_difference(&options) };

@@ -7,6 +7,7 @@ const TOP: i64 = (1 << 62) - 1;
 const VALUE: u32 = 6;
 const HALF: u32 = 7;
 const ROOM: u32 = 10;
+const OCCUPIED: u32 = 13;
 
 /// A table of one axis, and the side that answers.
 struct Bench<'a> {
@@ -39,9 +40,15 @@ impl Bench<'_> {
         assert_eq!((self.side)(&call, &mut self.memory), Outcome::Speed(stated), "{call:?}");
     }
 
+    /// A new axis in place of the old one, if there is one.
+    fn renew(&mut self, kind: u64, depth: u64, width: u64, turn: u64) {
+        self.value(Call::Erase { axis: 0 });
+        self.value(Call::Setup { axis: 0, kind, depth, width, turn });
+    }
+
     /// A new sampled axis without counts per turn.
     fn start(&mut self, kind: u64, depth: u64) {
-        self.value(Call::Setup { axis: 0, kind, depth, width: 0, turn: 0 });
+        self.renew(kind, depth, 0, 0);
     }
 
     fn sample(&mut self, port: u64) -> Sampled {
@@ -108,7 +115,7 @@ fn widening(bench: &mut Bench) {
     for (position, reading, wide) in [(250, 3, 259), (250, 121, 377), (250, 123, 123), (-1, 0, 0)] {
         assert_eq!(bench.value(widen(position, reading)), wide, "{position}, reading {reading}");
         // The same on a counter's row, which keeps the answer.
-        bench.value(Call::Setup { axis: 0, kind: 8, depth: 0, width: 8, turn: 0 });
+        bench.renew(8, 0, 8, 0);
         bench.value(Call::Preset { axis: 0, position });
         assert_eq!(bench.value(Call::Reading { axis: 0, reading }), wide, "{position}, reading {reading}");
         assert_eq!(bench.position(), wide);
@@ -160,10 +167,18 @@ fn speeds(bench: &mut Bench) {
 
 fn setting_up(bench: &mut Bench) {
     let setup = |depth| Call::Setup { axis: 0, kind: 4, depth, width: 0, turn: 4096 };
+    bench.value(Call::Erase { axis: 0 });
+    bench.refused(setup(9), VALUE);
+    assert_eq!(bench.memory.table(), [0; 4]);
     bench.value(setup(3));
     assert_eq!(bench.memory.table(), [1 << 62, 52, 0, 4096]);
-    bench.refused(setup(9), VALUE);
-    assert_eq!(bench.memory.table(), [1 << 62, 52, 0, 4096]);
+    bench.value(Call::Preset { axis: 0, position: -2 });
+    for depth in [9, 1] {
+        bench.refused(setup(depth), OCCUPIED);
+        assert_eq!(bench.memory.table(), [(1 << 62) - 2, 52, 0, 4096]);
+    }
+    bench.value(Call::Erase { axis: 0 });
+    bench.value(setup(1));
 }
 
 fn saving(bench: &mut Bench) {
@@ -171,7 +186,7 @@ fn saving(bench: &mut Bench) {
         0x01, 0x00, 0x02, 0x00, 0x01, 0x02, 0x00, 0x01, 0x04, 0x03, 0x00, 0x08, 0xff, 0xff, 0xff, 0xff, 0xff, 0xff,
         0xff, 0xfe, 0x04, 0x00, 0x01, 0x03, 0x06, 0x00, 0x04, 0x00, 0x00, 0x10, 0x00, 0x7f, 0x00, 0x00,
     ];
-    bench.value(Call::Setup { axis: 0, kind: 4, depth: 3, width: 0, turn: 4096 });
+    bench.renew(4, 3, 0, 4096);
     bench.value(Call::Preset { axis: 0, position: -2 });
     bench.memory.lend(&[0x55; 33]);
     bench.refused(Call::Save { axis: 0 }, ROOM);
@@ -179,4 +194,8 @@ fn saving(bench: &mut Bench) {
     bench.memory.lend(&[0x55; 34]);
     assert_eq!(bench.value(Call::Save { axis: 0 }), 34);
     assert_eq!(bench.memory.bytes(), record);
+    bench.refused(Call::Restore { axis: 0 }, OCCUPIED);
+    bench.value(Call::Erase { axis: 0 });
+    bench.value(Call::Restore { axis: 0 });
+    assert_eq!(bench.memory.table(), [(1 << 62) - 2, 52, 0, 4096]);
 }

@@ -3,6 +3,7 @@
 //! It follows the text of docs/RULES.md and shares nothing with the proved code; what else was at hand when it was written
 //! is said in docs/DECISIONS.md. Sections in quotes are that text's.
 
+use std::cell::Cell;
 use std::cmp::Ordering;
 use std::ops::Range;
 
@@ -30,6 +31,7 @@ pub enum Refusal {
     Room,
     Layout(u16),
     Record,
+    Occupied,
 }
 
 impl Refusal {
@@ -47,6 +49,7 @@ impl Refusal {
             Refusal::Room => 10,
             Refusal::Layout(_) => 11,
             Refusal::Record => 12,
+            Refusal::Occupied => 13,
         }
     }
 
@@ -378,12 +381,17 @@ pub enum Fault {
     UnroundedRemainder,
     DividedByPeriod,
     PeriodAnswered,
+    ValueBeforeOccupied,
+    OccupiedBeforeRecord,
+    BrokenIsFree,
+    FirstWordAlone,
+    ErasedIsRefused,
 }
 
 impl Fault {
-    /// The errors and what each does: five that were seen in the field, five ways to get a reference edge wrong, and
-    /// five to get a part of a speed wrong.
-    pub const ALL: [(Fault, &'static str); 15] = [
+    /// The errors and what each does: five that were seen in the field, five ways to get a reference edge wrong, five to
+    /// get a part of a speed wrong, and five to get wrong which row an axis goes into.
+    pub const ALL: [(Fault, &'static str); 20] = [
         (Fault::ComparedBeforeReducing, "a reading compared with the position before reducing"),
         (Fault::EveryRise, "x1 counting every rise of A"),
         (Fault::DoubleAsTwoSteps, "a double step taken as two steps in the last direction"),
@@ -399,12 +407,25 @@ impl Fault {
         (Fault::UnroundedRemainder, "the remainder of a speed that is cut and not rounded"),
         (Fault::DividedByPeriod, "a speed by period divided by the period where the age is larger"),
         (Fault::PeriodAnswered, "the period answered as the divisor where the age is larger"),
+        (Fault::ValueBeforeOccupied, "OCCUPIED checked after VALUE in a setup"),
+        (Fault::OccupiedBeforeRecord, "OCCUPIED checked before the record in a restore"),
+        (Fault::BrokenIsFree, "a broken row taken for free"),
+        (Fault::FirstWordAlone, "a row taken for free by its word 0 alone"),
+        (Fault::ErasedIsRefused, "an erased row refused as if it still held its axis"),
     ];
 }
 
-/// The calls. Each answers or refuses as its section says; the fault is `Fault::None` but for a trial.
+/// The calls on one table. Each answers or refuses as its section says; the fault is `Fault::None` but for a trial.
 pub struct Reference {
-    pub fault: Fault,
+    fault: Fault,
+    /// The axes that were erased, a bit for each, which `Fault::ErasedIsRefused` alone looks at: the words tell nothing of it.
+    erased: Cell<u16>,
+}
+
+impl Reference {
+    pub fn new(fault: Fault) -> Reference {
+        Reference { fault, erased: Cell::new(0) }
+    }
 }
 
 // "A port sample".
@@ -563,13 +584,33 @@ impl Reference {
         turn: u64,
     ) -> Result<(), Refusal> {
         let row = row_mut(table, axis)?;
-        let new = Axis::new(kind, depth, width, turn).ok_or(Refusal::Value)?;
-        row.copy_from_slice(&new.pack());
+        let new = Axis::new(kind, depth, width, turn);
+        if self.fault == Fault::ValueBeforeOccupied && new.is_none() {
+            return Err(Refusal::Value);
+        }
+        let room = self.room(row, axis)?;
+        room.copy_from_slice(&new.ok_or(Refusal::Value)?.pack());
         Ok(())
+    }
+
+    /// The words of a row that is free for a new axis: an empty one is, and no other.
+    fn room<'a>(&self, row: &'a mut [u64], axis: u64) -> Result<&'a mut [u64], Refusal> {
+        let free = match self.fault {
+            Fault::BrokenIsFree => !matches!(unpack(row), Row::Live(_)),
+            Fault::FirstWordAlone => row[0] == 0,
+            Fault::ErasedIsRefused if self.erased.get() >> axis & 1 == 1 => false,
+            _ => unpack(row) == Row::Empty,
+        };
+        if free {
+            Ok(row)
+        } else {
+            Err(Refusal::Occupied)
+        }
     }
 
     pub fn erase(&self, table: &mut [u64], axis: u64) -> Result<(), Refusal> {
         row_mut(table, axis)?.fill(0);
+        self.erased.set(self.erased.get() | 1 << axis);
         Ok(())
     }
 
@@ -636,8 +677,11 @@ impl Reference {
 
     pub fn restore(&self, table: &mut [u64], axis: u64, record: &[u8]) -> Result<(), Refusal> {
         let row = row_mut(table, axis)?;
+        if self.fault == Fault::OccupiedBeforeRecord {
+            self.room(row, axis)?;
+        }
         let new = read_record(record)?;
-        row.copy_from_slice(&new.pack());
+        self.room(row, axis)?.copy_from_slice(&new.pack());
         Ok(())
     }
 }
@@ -762,7 +806,7 @@ fn take_field<const N: usize>(left: &mut &[u8], tag: u8) -> Result<[u8; N], Refu
 }
 
 /// The axis that a record stands for, new but for its position.
-fn read_record(record: &[u8]) -> Result<Axis, Refusal> {
+pub fn read_record(record: &[u8]) -> Result<Axis, Refusal> {
     if let [LAYOUT_TAG, 0, 2, high, low, ..] = *record {
         let layout = u16::from_be_bytes([high, low]);
         if layout != LAYOUT {

@@ -24,9 +24,12 @@ impl Scenario {
         let words = if legal { 4 * random.between(1, MOST_AXES as u64) } else { illegal_length(random) };
         let mut memory = Memory::new(words as usize, || random.word());
         let homing = legal && random.once_in(3);
+        let fresh = !homing && random.once_in(6);
         let flawed = random.pick(&[0, 0, 1, 4]);
         for row in memory.table_mut().chunks_mut(4) {
-            let new = if random.below(8) < flawed {
+            let new = if fresh {
+                [0; 4]
+            } else if random.below(8) < flawed {
                 rows::broken(random)
             } else if homing {
                 rows::poised(random).pack()
@@ -93,9 +96,9 @@ impl Scenario {
         match random.below(12) {
             0 => {
                 let [kind, depth, width, turn] = configuration(random);
-                Call::Setup { axis, kind, depth, width, turn }
+                Call::Setup { axis: self.free_or(axis, random), kind, depth, width, turn }
             }
-            1 if random.coin() => Call::Erase { axis },
+            1 => Call::Erase { axis },
             2 => Call::Preset { axis, position: position(random) },
             3 => Call::Arm { axis },
             4 => Call::Acknowledge { axis },
@@ -110,9 +113,21 @@ impl Scenario {
             }
             10 => {
                 self.memory.lend(&record(random));
-                Call::Restore { axis }
+                Call::Restore { axis: self.free_or(axis, random) }
             }
             _ => Call::View { axis },
+        }
+    }
+
+    /// As often as not an axis whose row is empty, if there is one, so that axes are made as fast as they are erased; or
+    /// else this one.
+    fn free_or(&self, axis: u64, random: &mut Random) -> u64 {
+        let rows = (0..).zip(self.memory.table().chunks(4));
+        let free: Vec<u64> = rows.filter(|(_, row)| row.iter().all(|&word| word == 0)).map(|(axis, _)| axis).collect();
+        if free.is_empty() || random.coin() {
+            axis
+        } else {
+            random.pick(&free)
         }
     }
 

@@ -1,11 +1,14 @@
 // Damaged records, judged three times: by the proved record test and by a proved restore, through the C ABI, and by an independent reading
-// of docs/RULES.md, "The saved record". A refused restore has to keep the row. An accepted one has to leave the row that the record stands
-// for, and the row has to be saved as the same bytes again. Prints one line of counts and `no difference`, or the first slice on which they
-// differ, and then exits with 1.
+// of docs/RULES.md, "The saved record". A restore over a broken row has to give a bad record its own reason and a good one OCCUPIED; into
+// the same row, erased, it has to answer as the test does. A refused restore has to keep the row. An accepted one has to leave the row that
+// the record stands for, which has to be saved as the same bytes again and to be OCCUPIED from then on. Prints one line of counts and `no
+// difference`, or the first slice on which they differ, and then exits with 1.
 use std::collections::BTreeSet;
 use std::process::exit;
 
-use ubrenchip::c::{ubrenchip_restore, ubrenchip_save, ubrenchip_test_record, Answer};
+use ubrenchip::c::{
+    ubrenchip_erase, ubrenchip_restore, ubrenchip_save, ubrenchip_test_record, Answer,
+};
 
 const SEED: u64 = 0x1d0c_5eed;
 const RANDOM_PER_RECORD: usize = 3000;
@@ -13,6 +16,9 @@ const RANDOM_PER_RECORD: usize = 3000;
 const VALUE: u32 = 6;
 const LAYOUT: u32 = 11;
 const RECORD: u32 = 12;
+const OCCUPIED: u32 = 13;
+
+type Row = [u64; 4];
 
 fn tested(slice: &[u8]) -> Answer {
     // The slice is alive during the call, which only reads it.
@@ -20,7 +26,7 @@ fn tested(slice: &[u8]) -> Answer {
 }
 
 // The row that an accepted slice stands for.
-fn stands_for(slice: &[u8]) -> [u64; 4] {
+fn stands_for(slice: &[u8]) -> Row {
     let kind = u64::from(slice[8]);
     let position = u64::from_be_bytes(slice[12..20].try_into().unwrap());
     let depth_or_width = u64::from(slice[23]);
@@ -36,18 +42,35 @@ fn stands_for(slice: &[u8]) -> [u64; 4] {
     ]
 }
 
-// What a restore over a broken row answers, and whether it left what it should.
-fn restored(slice: &[u8]) -> (Answer, bool) {
-    let broken = [u64::MAX; 4];
-    let mut row = broken;
+// What a restore into a row answers, and the row it leaves.
+fn restored(row: Row, slice: &[u8]) -> (Answer, Row) {
+    let mut after = row;
     // The row and the slice are alive during the call and do not overlap.
-    let r =
-        unsafe { ubrenchip_restore(row.as_mut_ptr(), row.len(), 0, slice.as_ptr(), slice.len()) };
-    if r.refusal != 0 {
-        return (r, row == broken);
-    }
+    let answer = unsafe {
+        ubrenchip_restore(
+            after.as_mut_ptr(),
+            after.len(),
+            0,
+            slice.as_ptr(),
+            slice.len(),
+        )
+    };
+    (answer, after)
+}
+
+// A row after an erase.
+fn erased(row: Row) -> Row {
+    let mut after = row;
+    // The row is alive during the call.
+    let answer = unsafe { ubrenchip_erase(after.as_mut_ptr(), after.len(), 0) };
+    assert_eq!(answer, no(0));
+    after
+}
+
+// Whether a row is saved as these bytes.
+fn is_saved_as(row: Row, slice: &[u8]) -> bool {
     let mut buffer = [0; 40];
-    // The same of the row and the buffer.
+    // The row and the buffer are alive during the call and do not overlap.
     let saved = unsafe {
         ubrenchip_save(
             row.as_ptr(),
@@ -57,12 +80,31 @@ fn restored(slice: &[u8]) -> (Answer, bool) {
             buffer.len(),
         )
     };
+    saved.refusal == 0 && saved.value as usize == slice.len() && buffer.starts_with(slice)
+}
+
+// Whether a restore over a row that is not empty refuses the slice for its own reason, or as OCCUPIED if it has none, and keeps the row.
+fn keeps(row: Row, slice: &[u8], theirs: Answer) -> bool {
+    let refusal = if theirs == no(0) {
+        no(OCCUPIED)
+    } else {
+        theirs
+    };
+    restored(row, slice) == (refusal, row)
+}
+
+// What a restore into an erased row answers, which held a broken one, and whether every restore left what it should.
+fn restored_after_erase(slice: &[u8], theirs: Answer) -> (Answer, bool) {
+    let broken = [u64::MAX; 4];
+    let empty = erased(broken);
+    let (answer, row) = restored(empty, slice);
+    let left = match answer.refusal {
+        0 => row == stands_for(slice) && is_saved_as(row, slice) && keeps(row, slice, theirs),
+        _ => row == empty,
+    };
     (
-        r,
-        row == stands_for(slice)
-            && saved.refusal == 0
-            && saved.value as usize == slice.len()
-            && buffer.starts_with(slice),
+        answer,
+        empty == [0; 4] && left && keeps(broken, slice, theirs),
     )
 }
 
@@ -281,10 +323,10 @@ fn main() {
     let (mut accepted, mut layout, mut misshapen, mut value) = (0, 0, 0, 0);
     for slice in &slices {
         let (test, theirs) = (tested(slice), judged(slice));
-        let (restore, left) = restored(slice);
+        let (restore, left) = restored_after_erase(slice, theirs);
         if test != theirs || restore != theirs || !left {
             println!("damage: a difference at the slice {slice:02x?}, seed {SEED:#x}");
-            println!("tested {test:?}; restored {restore:?}, left as it should be: {left}; read from the rules {theirs:?}");
+            println!("tested {test:?}; restored {restore:?}, rows left as they should be: {left}; read from the rules {theirs:?}");
             exit(1);
         }
         match theirs.refusal {

@@ -7,7 +7,8 @@ use crate::c;
 /// Why a call is refused. A refused call changes no word of the table and no byte of a buffer.
 ///
 /// The reasons have numbers, [`Refusal::number`], and are checked in the order of these, but that a
-/// record's checks have an order of their own (docs/RULES.md, "Reasons for saying no").
+/// record's checks have an order of their own and a setup checks Occupied before Value (docs/RULES.md,
+/// "Reasons for saying no").
 ///
 /// It is no `std::error::Error`, since this crate does without `std`; where a `Box<dyn Error>` is
 /// wanted, `refusal.to_string()` goes into one.
@@ -41,6 +42,9 @@ pub enum Refusal {
     },
     /// 12: the bytes are no record, or a misshapen one.
     Record,
+    /// 13: the row is not empty, so no axis is put there. [`Table::erase`](crate::Table::erase) frees
+    /// it, a broken one too.
+    Occupied,
     /// A number that this crate has no name for, so the library that is linked is a newer one.
     ///
     /// The library of this crate's own version never answers it. Treat it as what it is, a refusal.
@@ -53,7 +57,7 @@ pub enum Refusal {
 }
 
 impl Refusal {
-    /// The number of the reason: 1 to 12, and another for [`Refusal::Unknown`].
+    /// The number of the reason: 1 to 13, and another for [`Refusal::Unknown`].
     pub const fn number(self) -> u32 {
         match self {
             Refusal::Length => c::UBRENCHIP_LENGTH,
@@ -68,6 +72,7 @@ impl Refusal {
             Refusal::Room => c::UBRENCHIP_ROOM,
             Refusal::Layout { .. } => c::UBRENCHIP_LAYOUT,
             Refusal::Record => c::UBRENCHIP_RECORD,
+            Refusal::Occupied => c::UBRENCHIP_OCCUPIED,
             Refusal::Unknown { number, .. } => number,
         }
     }
@@ -88,6 +93,7 @@ impl Refusal {
             c::UBRENCHIP_ROOM => Refusal::Room,
             c::UBRENCHIP_LAYOUT => Refusal::Layout { found },
             c::UBRENCHIP_RECORD => Refusal::Record,
+            c::UBRENCHIP_OCCUPIED => Refusal::Occupied,
             _ => Refusal::Unknown { number, found },
         })
     }
@@ -110,6 +116,7 @@ impl fmt::Display for Refusal {
                 return write!(out, "the record has another layout, number {found}")
             }
             Refusal::Record => "the bytes are no record, or a misshapen one",
+            Refusal::Occupied => "the row is not empty: erase it first",
             Refusal::Unknown { number, .. } => {
                 return write!(out, "reason {number}, which a newer library gave")
             }
@@ -237,7 +244,7 @@ mod tests {
             assert_eq!(refusal.number(), number);
             assert_eq!(
                 matches!(refusal, Refusal::Unknown { .. }),
-                number > c::UBRENCHIP_RECORD
+                number > c::UBRENCHIP_OCCUPIED
             );
         }
     }
@@ -252,23 +259,24 @@ mod tests {
             };
             assert_eq!(layout.done(), Err(Refusal::Layout { found }));
             let newer = c::Answer {
-                refusal: 13,
+                refusal: 14,
                 found,
                 value: 0,
             };
-            assert_eq!(newer.value(), Err(Refusal::Unknown { number: 13, found }));
+            assert_eq!(newer.value(), Err(Refusal::Unknown { number: 14, found }));
         }
     }
 
     #[test]
     fn each_reason_has_its_own_sentence() {
-        let mut sentences: Vec<String> = (1..=13)
+        let mut sentences: Vec<String> = (1..=14)
             .map(|number| Refusal::check(number, 40).unwrap_err().to_string())
             .collect();
         assert_eq!(sentences[10], "the record has another layout, number 40");
-        assert_eq!(sentences[12], "reason 13, which a newer library gave");
+        assert_eq!(sentences[12], "the row is not empty: erase it first");
+        assert_eq!(sentences[13], "reason 14, which a newer library gave");
         sentences.sort();
         sentences.dedup();
-        assert_eq!(sentences.len(), 13);
+        assert_eq!(sentences.len(), 14);
     }
 }

@@ -32,6 +32,8 @@ pub const UBRENCHIP_ROOM: u32 = 10;
 pub const UBRENCHIP_LAYOUT: u32 = 11;
 /// Not a record, or a misshapen one.
 pub const UBRENCHIP_RECORD: u32 = 12;
+/// The row is not empty: erase it first.
+pub const UBRENCHIP_OCCUPIED: u32 = 13;
 
 /// What most calls answer.
 #[repr(C)]

@@ -5,7 +5,8 @@ use crate::c;
 
 /// Axes in words that the caller lends: 4n words for n axes, n from 1 to 16.
 ///
-/// Words that are all 0 hold no axis yet; [`Table::setup`] and [`Table::restore`] put one there.
+/// A row whose four words are all 0 is empty; [`Table::setup`] and [`Table::restore`] put an axis
+/// there, and into no other row. [`Table::erase`] empties any row, a broken one too.
 /// Between calls the words are the library's own. They can be copied and lent again: what stands in
 /// them is all there is.
 ///
@@ -47,14 +48,15 @@ impl<'a> Table<'a> {
         unsafe { c::ubrenchip_sample(self.words.as_mut_ptr(), self.words.len(), port) }.masks()
     }
 
-    /// Sets an axis up anew at position 0, whatever the row held.
+    /// Sets an axis up in an empty row, at position 0.
     ///
     /// [`KIND_X1`](crate::KIND_X1), [`KIND_X2`](crate::KIND_X2) and [`KIND_X4`](crate::KIND_X4)
     /// take a depth of 1 to 8, width 0 and counts per turn of 0 to 2^32 - 1, 0 for no index check.
     /// [`KIND_COUNTER`](crate::KIND_COUNTER) takes a width of 2 to 32, depth 0 and 0 counts per
     /// turn.
     ///
-    /// It refuses Length, Axis, and then Value where a number is outside of these.
+    /// It refuses Length, Axis, Occupied where the row is not empty, and then Value where a number is
+    /// outside of these. A broken row is occupied too; [`Table::erase`] frees either.
     pub fn setup(
         &mut self,
         axis: u64,
@@ -67,7 +69,7 @@ impl<'a> Table<'a> {
         unsafe { c::ubrenchip_setup(table, words, axis, kind, depth, width, turn) }.done()
     }
 
-    /// Empties a row, whatever it held.
+    /// Empties a row, whatever it held: an axis, which is lost with its count, a broken row, or nothing.
     ///
     /// It refuses Length, then Axis.
     pub fn erase(&mut self, axis: u64) -> Result<(), Refusal> {
@@ -145,10 +147,11 @@ impl<'a> Table<'a> {
         saved.value().map(|bytes| bytes as usize)
     }
 
-    /// Sets an axis up from a record, the whole of the slice, whatever the row held: as a setup and
-    /// then a preset would.
+    /// Sets an axis up in an empty row from a record, the whole of the slice: as a setup and then a
+    /// preset would.
     ///
-    /// It refuses Length, Axis, and then what [`test_record`](crate::test_record) refuses.
+    /// It refuses Length, Axis, what [`test_record`](crate::test_record) refuses, and then Occupied
+    /// where the row is not empty. A broken row is occupied too; [`Table::erase`] frees either.
     pub fn restore(&mut self, axis: u64, record: &[u8]) -> Result<(), Refusal> {
         let (table, words) = (self.words.as_mut_ptr(), self.words.len());
         let (bytes, length) = (record.as_ptr(), record.len());

@@ -3,16 +3,23 @@
 
 use ubrenchip::*;
 
-/// An x4 axis of depth 1, without counts per turn, at axis 0 of as many words as are lent.
-fn counting(words: &mut [u64]) -> Table<'_> {
+/// A table in as many words as are lent, its axis 0 erased.
+fn freed(words: &mut [u64]) -> Table<'_> {
     let mut table = Table::new(words);
+    table.erase(0).unwrap();
+    table
+}
+
+/// An x4 axis of depth 1, without counts per turn, at axis 0, whatever stood there.
+fn counting(words: &mut [u64]) -> Table<'_> {
+    let mut table = freed(words);
     table.setup(0, KIND_X4, 1, 0, 0).unwrap();
     table
 }
 
-/// A counter of 8 bits at axis 0, at a position.
+/// A counter of 8 bits at axis 0, at a position, whatever stood there.
 fn counter(words: &mut [u64], position: i64) -> Table<'_> {
-    let mut table = Table::new(words);
+    let mut table = freed(words);
     table.setup(0, KIND_COUNTER, 0, 8, 0).unwrap();
     table.preset(0, position).unwrap();
     table
@@ -48,6 +55,13 @@ const RECORD: [u8; 34] = [
     0xff, 0xff, 0xff, 0xfe, 0x04, 0x00, 0x01, 0x03, 0x06, 0x00, 0x04, 0x00, 0x00, 0x10, 0x00, 0x7f,
     0x00, 0x00,
 ];
+
+/// The record above with one byte changed.
+fn changed(at: usize, byte: u8) -> [u8; 34] {
+    let mut record = RECORD;
+    record[at] = byte;
+    record
+}
 
 /// The record of a counter of 8 bits at position 250.
 const COUNTER_RECORD: [u8; 27] = [
@@ -132,15 +146,14 @@ fn test_record_takes_whole_records_alone() {
     assert_eq!(test_record(&COUNTER_RECORD), Ok(()));
     assert_eq!(test_record(&[]), Err(Refusal::Record));
     assert_eq!(test_record(&RECORD[..33]), Err(Refusal::Record));
-    let changed = |at: usize, byte| {
-        let mut record = RECORD;
-        record[at] = byte;
-        test_record(&record)
-    };
-    assert_eq!(changed(3, 0xff), Err(Refusal::Layout { found: 0xff01 }));
-    assert_eq!(changed(5, 3), Err(Refusal::Record));
-    assert_eq!(changed(8, 3), Err(Refusal::Value));
-    assert_eq!(changed(23, 9), Err(Refusal::Value));
+    for (at, byte, refusal) in [
+        (3, 0xff, Refusal::Layout { found: 0xff01 }),
+        (5, 3, Refusal::Record),
+        (8, 3, Refusal::Value),
+        (23, 9, Refusal::Value),
+    ] {
+        assert_eq!(test_record(&changed(at, byte)), Err(refusal));
+    }
 }
 
 #[test]
@@ -210,10 +223,8 @@ fn sample_holds_at_the_end_of_the_range() {
 
 #[test]
 fn setup_writes_the_row() {
-    let mut words = [u64::MAX; 4];
+    let mut words = [0; 4];
     let mut table = Table::new(&mut words);
-    assert_eq!(table.setup(0, KIND_X4, 3, 0, 4096), Ok(()));
-    assert_eq!(table.words(), [1 << 62, 52, 0, 4096]);
     for (kind, depth, width, turn) in [
         (3, 3, 0, 0),
         (KIND_X4, DEPTH_LEAST - 1, 0, 0),
@@ -230,14 +241,59 @@ fn setup_writes_the_row() {
             Err(Refusal::Value)
         );
     }
+    assert_eq!(table.words(), [0; 4]);
+    assert_eq!(table.setup(0, KIND_X4, 3, 0, 4096), Ok(()));
     assert_eq!(table.words(), [1 << 62, 52, 0, 4096]);
     for depth in [DEPTH_LEAST, DEPTH_MOST] {
+        assert_eq!(table.erase(0), Ok(()));
         assert_eq!(table.setup(0, KIND_X1, depth, 0, TURN_LIMIT), Ok(()));
         assert_eq!(table.words(), [1 << 62, 1 | depth << 4, 0, TURN_LIMIT]);
     }
     for width in [WIDTH_LEAST, WIDTH_MOST] {
+        assert_eq!(table.erase(0), Ok(()));
         assert_eq!(table.setup(0, KIND_COUNTER, 0, width, 0), Ok(()));
         assert_eq!(table.words(), [1 << 62, 8 | width << 8, 0, 0]);
+    }
+}
+
+/// Holds a row to be occupied: a setup says so before it looks at its numbers, a restore after it has
+/// looked at its record, and no word changes. Once it is erased, both are done.
+fn is_occupied(row: [u64; WORDS_A_ROW]) {
+    let mut words = row;
+    let mut table = Table::new(&mut words);
+    for depth in [DEPTH_LEAST, DEPTH_MOST + 1] {
+        assert_eq!(
+            table.setup(0, KIND_X4, depth, 0, 0),
+            Err(Refusal::Occupied),
+            "{row:x?}"
+        );
+    }
+    for (record, refusal) in [
+        (&RECORD[..], Refusal::Occupied),
+        (&COUNTER_RECORD[..], Refusal::Occupied),
+        (&changed(4, 7)[..], Refusal::Layout { found: 7 }),
+        (&changed(23, 9)[..], Refusal::Value),
+        (&RECORD[..33], Refusal::Record),
+    ] {
+        assert_eq!(table.restore(0, record), Err(refusal), "{row:x?}");
+    }
+    assert_eq!(table.words(), row);
+    assert_eq!(freed(&mut words).setup(0, KIND_X4, 1, 0, 0), Ok(()));
+    assert_eq!(freed(&mut words).restore(0, &RECORD), Ok(()));
+}
+
+#[test]
+fn a_row_that_is_not_empty_is_occupied() {
+    let mut words = [0; WORDS_A_ROW];
+    samples(&mut counting(&mut words), &[0, 1, 3]);
+    is_occupied(words);
+    counter(&mut words, 250);
+    is_occupied(words);
+    is_occupied([u64::MAX; WORDS_A_ROW]);
+    for bit in 0..256 {
+        words = [0; WORDS_A_ROW];
+        words[bit / 64] = 1 << (bit % 64);
+        is_occupied(words);
     }
 }
 
@@ -433,7 +489,7 @@ fn save_writes_a_record_and_nothing_beyond() {
 
 #[test]
 fn restore_takes_what_save_wrote() {
-    let mut words = [u64::MAX; 8];
+    let mut words = [0; 8];
     let mut table = Table::new(&mut words);
     assert_eq!(table.restore(0, &RECORD), Ok(()));
     assert_eq!(table.restore(1, &COUNTER_RECORD), Ok(()));
@@ -448,9 +504,10 @@ fn restore_takes_what_save_wrote() {
         0,
     ];
     assert_eq!(table.words(), restored);
-    let mut other = RECORD;
-    other[4] = 7;
-    assert_eq!(table.restore(1, &other), Err(Refusal::Layout { found: 7 }));
+    assert_eq!(
+        table.restore(1, &changed(4, 7)),
+        Err(Refusal::Layout { found: 7 })
+    );
     assert_eq!(table.restore(1, &RECORD[1..]), Err(Refusal::Record));
     assert_eq!(table.restore(1, &[]), Err(Refusal::Record));
     assert_eq!(table.restore(2, &[]), Err(Refusal::Axis));

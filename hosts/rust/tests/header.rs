@@ -76,7 +76,7 @@ fn the_reasons_are_the_headers() {
         .collect();
     let ours: Vec<_> = between(&declarations, "pub const ", ";").collect();
     assert_eq!(ours, theirs);
-    assert_eq!(ours.len(), 13);
+    assert_eq!(ours.len(), 14);
 }
 
 #[test]
