@@ -84,7 +84,7 @@ pub sample-refused : (t u : List ℕ) (word : ℕ) (a : Sample) → Samples t wo
 sample-refused t u word a = sample-says t u word a
 
 -- HEADLINE: a call that names an axis answers the reasons 1 to 5 and 13 exactly when their lines say; on a row that it takes it answers as
--- one of its lines in `Answers` says, the reasons 6 to 12 there; and where it is refused every word stays.
+-- one of its lines in `Answers` says, the reasons 6 to 12 there; no row is left over; and where it is refused every word stays.
 pub call-refused : (o : Op) (t u : List ℕ) (k : ℕ) (a : Told) → Says o t k u a →
     RefusesExactly o t k a × ((e : Refusal) → a ≡ refused e → u ≡ t)
 call-refused o t u k a = call-says o t u k a
