@@ -9,8 +9,7 @@ use Rattle.refusal.specs.Refusal.{numberOf}
 use Rattle.refusal.specs.Order.{checked, restoring, placeIn, After, ByThen}
 use Rattle.refusal.proofs.RefusalLaws.{after-either}
 use Rattle.refusal.specs.declared.Refusal.{Refusal}
-use Rattle.refusal.specs.declared.Refusal.the-variants.{Axis, Broken as BROKEN, Empty as EMPTY, Kind as KIND, Value as VALUE}
-use Rattle.refusal.specs.declared.Refusal.the-variants.{Layout, Record, Occupied as OCCUPIED}
+use Rattle.refusal.specs.declared.Refusal.the-variants.{Axis, Broken as BROKEN, Empty as EMPTY, Kind as KIND, Occupied as OCCUPIED}
 use Rattle.reckon.specs.Reckoned.{refusalIn}
 use Rattle.reckon.specs.declared.Reckoned.the-variants.{Refused as Unreckoned}
 use Rattle.speed.specs.Speed.{speedRefusal}
@@ -42,20 +41,15 @@ use Rattle.table_change.proofs.OrderLaws.{in-order, by-status, late, any-ordere
 
 -- ---- each call's own reasons
 
--- A restore answers that it was done, VALUE, LAYOUT, RECORD or OCCUPIED, and comes after what these come after, in any order.
-restore-after : (order : List Refusal) (e : Refusal) → After order e (numberOf VALUE) → After order e (numberOf (Layout 0)) →
-    After order e (numberOf Record) → After order e (numberOf OCCUPIED) → (s : List ℕ) (r : Row) →
-    After order e (changedNumber (restoreRow s r))
-unfolding restoreRow restoredBy
-restore-after order e value layout shape full s r = go (readAs s) refl
-  where
-    go : (a : Read) → readAs s ≡ a → After order e (changedNumber (restoredBy a r))
-    go (Accepted said) h = after-either order changedNumber e (isEmpty r) (To (saidRow said)) (Kept OCCUPIED) (inl refl) full
-    go (Unread f) h = unread-number (After order e) value layout shape s f h
-
 -- Every number that a row's own rule answers is done or comes after AXIS; of restore it comes after KIND.
 pub restore-late : (s : List ℕ) (r : Row) → After checked KIND (changedNumber (restoreRow s r))
-restore-late = restore-after checked KIND (inr (lit< tt)) (inr (lit< tt)) (inr (lit< tt)) (inr (lit< tt))
+unfolding restoreRow restoredBy
+restore-late s r = go (readAs s) refl
+  where
+    go : (a : Read) → readAs s ≡ a → After checked KIND (changedNumber (restoredBy a r))
+    go (Accepted said) h =
+        after-either checked changedNumber KIND (isEmpty r) (To (saidRow said)) (Kept OCCUPIED) (inl refl) (inr (lit< tt))
+    go (Unread e) h = unread-number (After checked KIND) (inr (lit< tt)) (inr (lit< tt)) (inr (lit< tt)) s e h
 
 -- A restore of a record that is refused gives that reason, after which OCCUPIED comes in its order, and a restore of a row that is not
 -- empty is refused by OCCUPIED at the latest.
