@@ -33,6 +33,7 @@ use Rattle.row_calls.specs.Change.{changed}
 use Rattle.row_counter.specs.Reading.{readAxis, readingOf, readingRow, storedRow, readRow}
 use Rattle.row_calls.specs.Calls.{byStatus, leftBy, onEmpty, configOf, changeRow, setupRow, eraseRow, placeRow, presetRow, armRow}
 use Rattle.row_calls.specs.Calls.{acknowledgeRow}
+use Rattle.row_calls.proofs.SetupLaws.{not-zero}
 use Rattle.row_saving.specs.Saving.{saidRow, restoredBy, restoreRow}
 use Rattle.row_calls.specs.declared.answer.Changed.{Changed}
 use Rattle.row_calls.specs.declared.answer.Changed.the-variants.{To, Kept}
@@ -146,17 +147,11 @@ module _ {r : Row} (words : Words r) where
     -- The row is empty where the phase began with an empty one.
     vacant-now : isEmpty now ≡ isEmpty (p .start)
     unfolding passes
-    vacant-now = go (test (isEmpty now)) (test (isEmpty (p .start)))
+    vacant-now = go (test (isEmpty now))
       where
-        go : Decided (isEmpty now) → Decided (isEmpty (p .start)) → isEmpty now ≡ isEmpty (p .start)
-        go (yes a) (yes b) = a ∙ sym b
-        go (no a) (no b) = a ∙ sym b
-        go (yes a) (no b) =
-            let e = sym status-now ∙ status-exactly Empty now .1 a in
-            absurd (true≢false (sym (status-exactly Empty (p .start) .0 e) ∙ b))
-        go (no a) (yes b) =
-            let e = status-now ∙ status-exactly Empty (p .start) .1 b in
-            absurd (true≢false (sym (status-exactly Empty now .0 e) ∙ a))
+        go : Decided (isEmpty now) → isEmpty now ≡ isEmpty (p .start)
+        go (yes a) = a ∙ sym (status-exactly Empty (p .start) .0 (sym status-now ∙ status-exactly Empty now .1 a))
+        go (no a) = a ∙ sym (not-zero (p .start) (λ e. true≢false (sym (status-exactly Empty now .0 (status-now ∙ e)) ∙ a)))
 
     -- What wants an empty row: another phase there, and in any other neither row nor phase.
     in-empty : (c : Changed) (q : Phase) → Tells r q (leftBy now c) → Tells r (inEmpty q p) (leftBy now (onEmpty c now))

@@ -69,7 +69,7 @@ use Rattle.history.specs.Counter.{CounterReads, none, read, between, refusing}
 use Rattle.history.proofs.CounterHistory.{sample-aside, look-aside}
 use Rattle.promises.specs.Own.{seenLook, seen, eventOf, events, own}
 use Rattle.promises.specs.Day.{by-count, by-period, AnsweredOver}
-use Rattle.promises.specs.Full.{OnFull}
+use Rattle.promises.specs.Occupied.{OnFull}
 
 -- The shaft at an angle, with Z at 0.
 abbrev at : ℤ → ShaftSample

@@ -63,7 +63,7 @@ use Rattle.promises.specs.Own.{events, own, toldSince}
 use Rattle.promises.specs.Agreement.{BeginAlike, EndAlike}
 use Rattle.promises.specs.Edge.{axisAfter, Following, NextSample}
 use Rattle.promises.specs.Day.{AnsweredOver}
-use Rattle.promises.specs.Full.{OnFull}
+use Rattle.promises.specs.Occupied.{OnFull}
 use Rattle.promises.proofs.Refusing.{sample-says, call-says}
 use Rattle.promises.proofs.CountIsRight.{row-told, position-told, doubles-told, double-told, bits-none}
 use Rattle.promises.proofs.UserSees.{view-told}

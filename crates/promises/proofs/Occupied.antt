@@ -14,7 +14,7 @@ use Rattle.axis_sound.specs.declared.Status.the-variants.{Empty}
 use Rattle.row_calls.specs.Calls.{configOf, setupRow, eraseRow}
 use Rattle.row_calls.specs.declared.apply.Change.the-variants.{Setup, Erase, Preset, Arm, Acknowledge}
 use Rattle.row_calls.specs.declared.answer.Changed.{Changed}
-use Rattle.row_calls.specs.declared.answer.Changed.the-variants.{To, Kept}
+use Rattle.row_calls.specs.declared.answer.Changed.the-variants.{Kept}
 use Rattle.row_calls.specs.declared.answer.Done.{Done}
 use Rattle.row_calls.specs.declared.answer.Done.the-variants.{Yes}
 use Rattle.row_calls.proofs.SetupLaws.{setup-full, setup-done, erase-makes}
@@ -25,15 +25,15 @@ use Rattle.table_rows.specs.declared.Located.{Located}
 use Rattle.table_rows.specs.declared.Located.the-variants.{At, Refused}
 use Rattle.table_rows.proofs.LocatedLaws.{found}
 use Rattle.table_change.specs.Making.{ruled, tableAfter, Makes}
-use Rattle.table_change.proofs.MakingLaws.{makes-spares, replaced}
+use Rattle.table_change.proofs.MakingLaws.{makes-spares, makes-done}
 use Rattle.runs.specs.Op.{Op, changes, restore, reading, looks, ruleOf}
 use Rattle.runs.specs.Event.{asked, rowSince}
 use Rattle.runs.specs.Run.{Call, port, names, tableBy, tableNext, tableRun}
-use Rattle.runs.proofs.CallLaws.{look-keeps, ruled-is}
+use Rattle.runs.proofs.CallLaws.{look-keeps}
 use Rattle.history.specs.Lasting.{Unerased, unheeded, heeded}
 use Rattle.history.proofs.LastingLaws.{heeded-alone}
 use Rattle.promises.specs.Own.{own}
-use Rattle.promises.specs.Full.{OnFull}
+use Rattle.promises.specs.Occupied.{OnFull}
 use Rattle.promises.proofs.CountIsRight.{first-words, row-is}
 
 -- ---- what is refused
@@ -75,21 +75,8 @@ pub erase-frees : (t : List ℕ) (k : ℕ) {u : List ℕ} {a : Done} → k < axe
     (a ≡ Yes) × (k < axesIn (length u)) × (statusOf (rowAt u k) ≡ Empty)
 erase-frees t k there w =
     let m = erase-makes (rowAt t k) in
-    let made : ruled eraseRow t k ≡ To emptyRow = ruled-is t k there eraseRow ∙ m .0 in (
-      w .answer ∙ rw made,
-      rw (makes-spares eraseRow w .size) there,
-      ap statusOf (rw (w .table, made) (replaced eraseRow t k emptyRow made .2)) ∙ m .1 .status,
-    )
-
--- A setup of an empty row with a configuration is done, and makes its row.
-sets-empty : (u : List ℕ) (k kind depth width turn : ℕ) {v : List ℕ} {b : Done} → k < axesIn (length u) → statusOf (rowAt u k) ≡ Empty →
-    goodConfig kind depth width turn ≡ true → Makes (setupRow kind depth width turn) u k v b →
-    (b ≡ Yes) × (rowAt v k ≡ rowOf (fresh (configOf kind depth width turn)))
-sets-empty u k kind depth width turn there empty good w =
-    let rule = setupRow kind depth width turn in
-    let row = rowOf (fresh (configOf kind depth width turn)) in
-    let made : ruled rule u k ≡ To row = ruled-is u k there rule ∙ setup-done kind depth width turn (rowAt u k) empty good in
-    (w .answer ∙ rw made, rw (w .table, made) (replaced rule u k row made .2))
+    let d = makes-done eraseRow emptyRow there (m .0) w in
+    (d .0, rw (makes-spares eraseRow w .size) there, ap statusOf (d .1) ∙ m .1 .status)
 
 -- So any row, a live and a broken one too, can be erased and then set up.
 pub frees : (t : List ℕ) (k kind depth width turn : ℕ) {u v : List ℕ} {a b : Done} → k < axesIn (length t) →
@@ -97,7 +84,7 @@ pub frees : (t : List ℕ) (k kind depth width turn : ℕ) {u v : List ℕ} {a b
     (a ≡ Yes) × (b ≡ Yes) × (rowAt v k ≡ rowOf (fresh (configOf kind depth width turn)))
 frees t k kind depth width turn {u} there good erases sets =
     let e = erase-frees t k there erases in
-    let s = sets-empty u k kind depth width turn (e .1) (e .2) good sets in
+    let s = makes-done (setupRow kind depth width turn) _ (e .1) (setup-done kind depth width turn (rowAt u k) (e .2) good) sets in
     (e .0, s .0, s .1)
 
 -- ---- that a count survives

@@ -18,7 +18,7 @@ use Rattle.record.specs.declared.answer.Written.{Written}
 use Rattle.record.specs.declared.answer.Written.the-variants.{Bytes, Refused as Unwritten}
 use Rattle.record.proofs.RecordLaws.{layout-refused}
 use Rattle.row_calls.specs.Calls.{setupRow, eraseRow, presetRow, andThen}
-use Rattle.row_calls.specs.declared.answer.Changed.the-variants.{To, Kept}
+use Rattle.row_calls.specs.declared.answer.Changed.the-variants.{Kept}
 use Rattle.row_calls.specs.declared.answer.Done.{Done}
 use Rattle.row_calls.specs.declared.answer.Done.the-variants.{Yes, Refused as Undone}
 use Rattle.row_saving.specs.Saving.{restoreRow, saveRow, savedIn}
@@ -29,7 +29,7 @@ use Rattle.table_rows.specs.declared.Located.{Located}
 use Rattle.table_rows.specs.declared.Located.the-variants.{At, Refused}
 use Rattle.table_rows.proofs.LocatedLaws.{found-at, found}
 use Rattle.table_change.specs.Making.{Makes, ruled, tableAfter}
-use Rattle.table_change.proofs.MakingLaws.{makes-spares, done-makes, replaced}
+use Rattle.table_change.proofs.MakingLaws.{makes-spares, makes-done, done-makes}
 use Rattle.table.specs.Call.{SaveMakes}
 use Rattle.runs.proofs.CallLaws.{ruled-is}
 use Rattle.promises.proofs.Occupied.{erase-frees}
@@ -59,12 +59,8 @@ pub restores-save : (t b : List ℕ) (k n : ℕ) {d : List ℕ} → SaveMakes t 
     (a ≡ Yes) × (rowAt v j ≡ rowOf (freshAt (axisOf (rowAt t k) .config) (axisOf (rowAt t k) .word)))
 restores-save t b k n {d} saves u j there empty w =
     let p = saved-there t b k n saves in
-    let row = rowOf (freshAt (axisOf (rowAt t k) .config) (axisOf (rowAt t k) .word)) in
-    let made : ruled (restoreRow (take n d)) u j ≡ To row =
-    ruled-is u j there (restoreRow (take n d))
-    ∙ ap (λ (x : List ℕ). restoreRow (take n x) (rowAt u j)) (p .1)
-    ∙ restored-save b n (rowAt t k) (rowAt u j) (p .0) empty in
-    (w .answer ∙ rw made, rw (w .table, made) (replaced (restoreRow (take n d)) u j row made .2))
+    makes-done (restoreRow (take n d)) _ there
+    (ap (λ (x : List ℕ). restoreRow (take n x) (rowAt u j)) (p .1) ∙ restored-save b n (rowAt t k) (rowAt u j) (p .0) empty) w
 
 -- After an erase it is so on any row: on the one that was saved, and on any other.
 pub restores-erased : (t b : List ℕ) (k n : ℕ) {d : List ℕ} → SaveMakes t k b d (Bytes n) →

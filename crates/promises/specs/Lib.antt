@@ -3,4 +3,4 @@ pub mod Own
 pub mod Agreement
 pub mod Edge
 pub mod Day
-pub mod Full
+pub mod Occupied

@@ -116,14 +116,6 @@ restore-full s r full = go (readAs s) refl
     go (Accepted said) h = accepted-is s said r h ∙ on-occupied _ r full
     go (Unread e) h = restore-refused s e r h
 
--- A restore that makes a row took an empty one and a record that is accepted.
-pub restore-taken : (s : List ℕ) (r q : Row) → restoreRow s r ≡ To q → (statusOf r ≡ Empty) × (isRead (readAs s) ≡ true)
-restore-taken s r q e = go (readAs s) refl
-  where
-    go : (n : Read) → readAs s ≡ n → (statusOf r ≡ Empty) × (isRead n ≡ true)
-    go (Unread f) h = absurd (kept-not q f (sym (restore-refused s f r h) ∙ e))
-    go (Accepted said) h = (empty-taken _ r q (sym (accepted-is s said r h) ∙ e) .0, refl)
-
 -- ---- what is saved
 
 -- A sampled configuration is one, and so is a counter's.

@@ -3,7 +3,7 @@
 use Prim.Native.Nat.{ℕ, _≤_, _<_}
 use native.Mathlib.Omega.{arith}
 use mathlib.Core.Path.{_≡_, refl, sym, ap, _∙_}
-use mathlib.Core.Logic.{_↔_, _≢_, _⊎_, inl, inr, ⊎-elim}
+use mathlib.Core.Logic.{_↔_, _≢_, _⊎_, inl, inr}
 use mathlib.Core.Bool.{true, false, true≢false}
 use mathlib.Core.List.{List}
 use borrow.Author.Tests.{eqb-true, eqb-false, ltb-true, ltb-false}
@@ -168,80 +168,24 @@ row-late (looks (save b)) r = rw (bytes-number (saveRow (length b) r) (savedIn b
 
 -- ---- no row is left over
 
--- A row is of the wrong kind or not.
-is-counter : (s : Status) → (s ≡ Counter) ⊎ (s ≡ Counter → ⊥)
-is-counter Counter = inl refl
-is-counter Sampled = inr (λ e. let z : _≡_ {A = ℕ} 0 1 = cc in omega arith)
-is-counter Empty = inr (λ e. let z : _≡_ {A = ℕ} 0 1 = cc in omega arith)
-is-counter Broken = inr (λ e. let z : _≡_ {A = ℕ} 0 1 = cc in omega arith)
+-- Where the row's own state gives no reason, the call takes it.
+taken : (o : Op) (r : Row) → (ByRow (refusalTold (answerOf o r)) → ⊥) → Takes o (statusOf r)
+unfolding Takes passes
+taken o r free = (λ q. live q (statusOf r) refl, λ w. vacant w (test (isEmpty r)))
+  where
+    right : needsAxis o ≡ true → WrongKind o (statusOf r) → ⊥
+    right q w = free (inr (inl (row-reasons o q r .kind .1 w)))
 
-is-sampled : (s : Status) → (s ≡ Sampled) ⊎ (s ≡ Sampled → ⊥)
-is-sampled Sampled = inl refl
-is-sampled Counter = inr (λ e. let z : _≡_ {A = ℕ} 0 1 = cc in omega arith)
-is-sampled Empty = inr (λ e. let z : _≡_ {A = ℕ} 0 1 = cc in omega arith)
-is-sampled Broken = inr (λ e. let z : _≡_ {A = ℕ} 0 1 = cc in omega arith)
+    live : needsAxis o ≡ true → (s : Status) → statusOf r ≡ s →
+        ((statusOf r ≡ Sampled) ⊎ (statusOf r ≡ Counter)) × (WrongKind o (statusOf r) → ⊥)
+    live q Broken e = absurd (free (inl (inl (row-reasons o q r .broken .1 e))))
+    live q Empty e = absurd (free (inl (inr (row-reasons o q r .empty .1 e))))
+    live q Sampled e = (inl e, right q)
+    live q Counter e = (inr e, right q)
 
-wrong-kind : (o : Op) (s : Status) → WrongKind o s ⊎ (WrongKind o s → ⊥)
-unfolding WrongKind
-wrong-kind (changes (Setup kind depth width turn)) s = inr (λ w. w)
-wrong-kind (changes Erase) s = inr (λ w. w)
-wrong-kind (changes (Preset p)) s = inr (λ w. w)
-wrong-kind (changes Arm) s = is-counter s
-wrong-kind (changes Acknowledge) s = is-counter s
-wrong-kind (restore bytes) s = inr (λ w. w)
-wrong-kind (reading x) s = is-sampled s
-wrong-kind (looks view) s = inr (λ w. w)
-wrong-kind (looks (speed rate)) s = is-counter s
-wrong-kind (looks (save b)) s = inr (λ w. w)
-
--- A call that asks for an axis wants no empty row.
-wants-axis : (o : Op) → needsAxis o ≡ true → wantsEmpty o ≡ true → ⊥
-unfolding needsAxis wantsEmpty
-wants-axis (changes (Setup kind depth width turn)) n w = true≢false (sym n)
-wants-axis (changes Erase) n w = true≢false (sym n)
-wants-axis (changes (Preset p)) n w = true≢false (sym w)
-wants-axis (changes Arm) n w = true≢false (sym w)
-wants-axis (changes Acknowledge) n w = true≢false (sym w)
-wants-axis (restore bytes) n w = true≢false (sym n)
-wants-axis (reading x) n w = true≢false (sym w)
-wants-axis (looks l) n w = true≢false (sym w)
-
--- A call takes a row, or the row's own state gives a reason.
-module _ (o : Op) (r : Row) where
-  Told-of : Type 0
-  Told-of = Takes o (statusOf r) ⊎ ByRow (refusalTold (answerOf o r))
-
-  -- One that asks for an axis.
-  told-axis : needsAxis o ≡ true → (s : Status) → statusOf r ≡ s → Told-of
-  unfolding Told-of Takes
-  told-axis q s e = go s e
-    where
-      kinds : ((statusOf r ≡ Sampled) ⊎ (statusOf r ≡ Counter)) → Told-of
-      kinds live =
-          ⊎-elim (λ w. inr (inr (inl (row-reasons o q r .kind .1 w)))) (λ w. inl (λ _. (live, w), λ e. absurd (wants-axis o q e)))
-          (wrong-kind o (statusOf r))
-
-      go : (s : Status) → statusOf r ≡ s → Told-of
-      go Broken e = inr (inl (inl (row-reasons o q r .broken .1 e)))
-      go Empty e = inr (inl (inr (row-reasons o q r .empty .1 e)))
-      go Sampled e = kinds (inl e)
-      go Counter e = kinds (inr e)
-
-  -- One that does not.
-  told-free : needsAxis o ≡ false → Decided (wantsEmpty o) → Decided (isEmpty r) → Told-of
-  unfolding Told-of Takes passes
-  told-free q (no w) e = inl (λ n. absurd (true≢false (sym n ∙ q)), λ v. absurd (true≢false (sym v ∙ w)))
-  told-free q (yes w) (yes e) = inl (λ n. absurd (true≢false (sym n ∙ q)), λ _. status-exactly Empty r .1 e)
-  told-free q (yes w) (no e) =
-      inr (inr (inr (row-occupied r o .1 (w, λ z. true≢false (sym (status-exactly Empty r .0 z) ∙ e)))))
-
-  taken-or-not : Takes o (statusOf r) ⊎ ByRow (refusalTold (answerOf o r))
-  unfolding Told-of
-  taken-or-not = go (test (needsAxis o))
-    where
-      go : Decided (needsAxis o) → Told-of
-      go (yes q) = told-axis q (statusOf r) refl
-      go (no q) = told-free q (test (wantsEmpty o)) (test (isEmpty r))
+    vacant : wantsEmpty o ≡ true → Decided (isEmpty r) → statusOf r ≡ Empty
+    vacant w (yes e) = status-exactly Empty r .1 e
+    vacant w (no e) = absurd (free (inr (inr (row-occupied r o .1 (w, λ z. true≢false (sym (status-exactly Empty r .0 z) ∙ e))))))
 
 -- ---- on a table
 
@@ -291,7 +235,7 @@ module _ (o : Op) (t : List ℕ) (k : ℕ) where
       λ w. ap refusalTold (ordered .own (w .0)) ∙ row-occupied (rowAt t k) o .1 (w .1, w .2),
     );
     own = λ h takes. rw (ordered .own h) (answers o (rowAt t k) takes);
-    all = λ h. rw (ordered .own h) (taken-or-not o (rowAt t k));
+    all = λ h. rw (ordered .own h) (taken o (rowAt t k));
   }
     where
       wrong : Decided (needsAxis o) → refusalTold (answerOf o (rowAt t k)) ≡ 5 → WrongKind o (statusOf (rowAt t k))

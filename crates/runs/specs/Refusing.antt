@@ -74,7 +74,7 @@ abbrev pub ByRow : ℕ → Type 0
 ByRow n = ((n ≡ 3) ⊎ (n ≡ 4)) ⊎ ((n ≡ 5) ⊎ (n ≡ 13))
 
 -- The reasons 1 to 5 and 13 of a call that names axis k of a table, each exactly when; on a row that the call takes the answer that one
--- of its lines gives; and no row is left over.
+-- of its lines gives; and no row is left over: where the row's own state gives no reason, the call takes it.
 pub record RefusesExactly (o : Op) (t : List ℕ) (k : ℕ) (a : Told) : Type 0 where
   pub slice : (refusalTold a ≡ 1) ↔ (axesIn (length t) ≡ 0)
   pub axis : (refusalTold a ≡ 2) ↔ ((axesIn (length t) ≢ 0) × (axesIn (length t) ≤ k))
@@ -83,4 +83,4 @@ pub record RefusesExactly (o : Op) (t : List ℕ) (k : ℕ) (a : Told) : Type 0 
   pub kind : (refusalTold a ≡ 5) ↔ ((k < axesIn (length t)) × WrongKind o (statusOf (rowAt t k)))
   pub occupied : (refusalTold a ≡ 13) ↔ ((k < axesIn (length t)) × (wantsEmpty o ≡ true) × (statusOf (rowAt t k) ≢ Empty))
   pub own : k < axesIn (length t) → Takes o (statusOf (rowAt t k)) → Answers (rowAt t k) o a
-  pub all : k < axesIn (length t) → Takes o (statusOf (rowAt t k)) ⊎ ByRow (refusalTold a)
+  pub all : k < axesIn (length t) → (ByRow (refusalTold a) → ⊥) → Takes o (statusOf (rowAt t k))

@@ -1,7 +1,7 @@
 -- The laws of the calls that make another row of the named one, once for all of them: docs/RULES.md, "Calls that name one axis".
 use Prim.Native.Nat.{ℕ, _<_}
 use native.Mathlib.Omega.{arith}
-use mathlib.Core.Path.{_≡_, refl, ap, _∙_}
+use mathlib.Core.Path.{_≡_, refl, sym, ap, _∙_}
 use mathlib.Core.List.{List}
 use lib.ListN.{length}
 use Rattle.refusal.specs.declared.Refusal.{Refusal}
@@ -17,7 +17,7 @@ use Rattle.table_change.specs.Making.{ruled, tableAfter, Spares, Commits
 use Rattle.table_rows.specs.declared.Located.{Located}
 use Rattle.table_rows.specs.declared.Located.the-variants.{At, Refused}
 use Rattle.table_rows.proofs.RowsLaws.{length-setRow, word-other, row-other, row-same}
-use Rattle.table_rows.proofs.LocatedLaws.{found, found-fits}
+use Rattle.table_rows.proofs.LocatedLaws.{found, found-at, found-fits}
 
 -- ---- the ways out of a call
 
@@ -69,6 +69,13 @@ module _ (rule : Row → Changed) {t u : List ℕ} {k : ℕ} where
       go : (c : Changed) → ruled rule t k ≡ c → u ≡ t
       go (Kept x) q = w .table ∙ rw q
       go (To r) q = absurd (let z : _≡_ {A = ℕ} 0 1 = cc (w .answer) in omega arith)
+
+  -- Where the rule makes another row of the named one, it is done, and that row stands there.
+  pub makes-done : {a : Done} (r : Row) → k < axesIn (length t) → rule (rowAt t k) ≡ To r → Makes rule t k u a →
+      (a ≡ Yes) × (rowAt u k ≡ r)
+  makes-done r there e w =
+      let q : ruled rule t k ≡ To r = ap (onFound Kept rule) (sym (found-at t k there)) ∙ e in
+      (w .answer ∙ rw q, rw (w .table, q) (replaced rule t k r q .2))
 
   -- Where it is done, there is an axis of that number, and its row is the one that the rule makes of it.
   pub done-makes : Makes rule t k u Yes → (k < axesIn (length t)) × (rule (rowAt t k) ≡ To (rowAt u k))
