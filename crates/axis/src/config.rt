@@ -4,7 +4,7 @@ ghost use Rattle.axis.specs.Config.{sampled_config, counter_config, good_config}
 
 use crate::kind::Kind;
 
-#[derive(Drop)]
+#[derive(Clone, Copy)]
 pub struct Config {
     pub kind: u8,
     pub depth: u8,

@@ -1,4 +1,6 @@
 // One axis by value: its kind, its configuration, and the row of four words that holds it.
+#![tactic(auto)]
+
 pub mod limit; // limit.rt: how many axes there may be together
 pub mod kind; // kind.rt: the kinds and their numbers
 pub mod config; // config.rt: what an axis is set up as, and its limits

@@ -5,7 +5,7 @@ ghost use Rattle.axis.specs.Row.{blank, fresh, fresh_at};
 use crate::config::Config;
 
 // The four words of a row.
-#[derive(Drop)]
+#[derive(Clone, Copy)]
 pub struct Row {
     pub w0: u64,
     pub w1: u64,
@@ -14,7 +14,7 @@ pub struct Row {
 }
 
 // The flags of an axis.
-#[derive(Drop)]
+#[derive(Clone, Copy)]
 pub struct Flags {
     pub primed: bool,
     pub armed: bool,
@@ -24,7 +24,7 @@ pub struct Flags {
 }
 
 // Direction, age and period.
-#[derive(Drop)]
+#[derive(Clone, Copy)]
 pub struct Pace {
     pub direction: u8,
     pub age: u32,
@@ -32,7 +32,7 @@ pub struct Pace {
 }
 
 // What a row holds. The position stays as word 0 has it, 2^62 more than it is.
-#[derive(Drop)]
+#[derive(Clone, Copy)]
 pub struct Axis {
     pub word: u64,
     pub config: Config,

@@ -1,4 +1,5 @@
 // Position, RANGE and doubles after an entry.
+#![tactic(auto)]
 ghost use Rattle.std.specs.Prelude.{◌≡◌};
 ghost use Rattle.axis_count.specs.Count.{counted_by, counted_doubles};
 
@@ -9,7 +10,7 @@ use position::{FIRST, LAST};
 const MOST: u16 = 65535;
 
 // Word 0 and RANGE.
-#[derive(Drop)]
+#[derive(Clone, Copy)]
 pub struct Counted {
     pub word: u64,
     pub range: bool,

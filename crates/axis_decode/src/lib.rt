@@ -1,11 +1,12 @@
 // The three transition tables, old code by new code.
+#![tactic(auto)]
 ghost use Rattle.std.specs.Prelude.{◌≡◌, ◌<◌};
 ghost use Rattle.axis_decode.specs.Decode.{code, entry, mark, is_e};
 
 use axis::kind::Kind;
 
 // An entry of a transition table.
-#[derive(Drop)]
+#[derive(Clone, Copy)]
 pub enum Move {
     Still,
     Forward,

@@ -1,11 +1,13 @@
 // The three lines: the raw levels of a sample, and what the filter makes of them.
+#![tactic(auto)]
+
 ghost use Rattle.std.specs.Prelude.{◌≡◌};
 ghost use Rattle.axis_filter.specs.Lines.{raw_of};
 
 pub mod filter; // filter.rt: the three lines after a sample
 
 // The raw levels of one sample.
-#[derive(Drop)]
+#[derive(Clone, Copy)]
 pub struct Raw {
     pub a: bool,
     pub b: bool,
@@ -13,14 +15,14 @@ pub struct Raw {
 }
 
 // A filtered line: its level, and how many samples in a row have differed from it.
-#[derive(Drop)]
+#[derive(Clone, Copy)]
 pub struct Line {
     pub level: bool,
     pub run: u8,
 }
 
 // The three filtered lines.
-#[derive(Drop)]
+#[derive(Clone, Copy)]
 pub struct Lines {
     pub a: Line,
     pub b: Line,

@@ -1,4 +1,5 @@
 // The index line: the reference edge, homing and the check.
+#![tactic(auto)]
 ghost use Rattle.std.specs.Prelude.{◌≡◌, cond, ◌&&◌, ◌||◌, ◌^◌, nat_abs};
 ghost use Rattle.position.specs.Position.{position_of};
 ghost use Rattle.axis.specs.Kind.{X4};
@@ -10,7 +11,7 @@ use axis_decode::{Move, move_between};
 use position::ORIGIN;
 
 // Whether a sample is a reference edge, and which way it is met.
-#[derive(Drop)]
+#[derive(Clone, Copy)]
 pub struct Edge {
     pub forward: bool,
     pub backward: bool,

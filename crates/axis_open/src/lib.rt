@@ -1,4 +1,5 @@
 // A row opened: what it is, and what it unpacks to.
+#![tactic(auto)]
 ghost use Rattle.std.specs.Prelude.{◌≡◌, false};
 ghost use Rattle.axis.specs.Row.{axis_of};
 ghost use Rattle.axis_sound.specs.Sound.{is_sampled, status_of, low_row};
@@ -9,7 +10,7 @@ use axis_packing::unpack;
 use axis_sound::{Status, is_counter, is_empty, is_sampled};
 
 // A row opened: what it is, and the axis that it holds.
-#[derive(Drop)]
+#[derive(Clone, Copy)]
 pub struct Opened {
     pub status: Status,
     pub axis: Axis,

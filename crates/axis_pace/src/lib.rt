@@ -1,4 +1,5 @@
 // Direction, age and period after an entry.
+#![tactic(auto)]
 ghost use Rattle.std.specs.Prelude.{◌≡◌};
 ghost use Rattle.axis_pace.specs.Pace.{older, step_period, paced_by};
 

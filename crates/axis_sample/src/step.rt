@@ -12,7 +12,7 @@ use axis_index::{edge_between, is_met};
 use axis_settle::settled;
 
 // The axis after a sample, and its bits of the answer.
-#[derive(Drop)]
+#[derive(Clone, Copy)]
 pub struct Stepped {
     pub axis: Axis,
     pub double: bool,

@@ -1,6 +1,6 @@
 -- The laws of a primed axis whose filtered lines are known: docs/RULES.md, "A port sample".
 use mathlib.Core.Path.{◌≡◌, refl, sym, ap, ◌∙◌}
-use mathlib.Core.Bool.{Bool, true, false, ◌&&◌, and-true, and-false, or_true, or-false, true≢false}
+use mathlib.Core.Bool.{Bool, true, false, ◌&&◌, and-true, and-false, or-true, or-false, true≢false}
 use mathlib.Core.List.{List}
 use lib.IntN.{◌+ℤ◌}
 use lib.ListN.{get_or}
@@ -95,7 +95,7 @@ module _ (x : Axis) (n : Wire → Line) where
             position = rw (s, apart q, p);
             range = simp (s, p, and-false);
             armed = rw s;
-            homed = rw (s, p, or_true);
+            homed = rw (s, p, or-true);
             index = rw (s, p, or-false);
           }
       go true false true p q r =
@@ -104,7 +104,7 @@ module _ (x : Axis) (n : Wire → Line) where
             position = rw (s, r, p) (from_origin _).0;
             range = simp (s, p, and-false) (from_origin _).1;
             armed = rw s;
-            homed = rw (s, p, or_true);
+            homed = rw (s, p, or-true);
             index = rw (s, p, or-false);
           }
       go true false false p q r = absurd (true≢false (sym h ∙ rw (r, q, p)))

@@ -1,4 +1,5 @@
 // What the filtered lines of a sample make of a primed axis: count, age and period, index.
+#![tactic(auto)]
 ghost use Rattle.std.specs.Prelude.{◌≡◌, true};
 ghost use Rattle.axis_filter.specs.Lines.{three};
 ghost use Rattle.axis_settle.specs.Lines.{move_to, edge_to};

@@ -6,7 +6,7 @@ use mathlib.Core.Bool.{Bool, true, false, not, ◌&&◌, ◌||◌, and-true, and
 use mathlib.Core.List.{List, [], ◌∷◌, map}
 use lib.Dec.{eqb, leb, ltb}
 use lib.ListN.{get_or, drop}
-use borrow.Author.Tests.{eqb-true, eqb-false, leb-true, ltb-true, not_true, not-false, eq-eqb, ne_eqb, le-leb, lt-ltb}
+use borrow.Author.Tests.{eqb-true, eqb-false, leb-true, ltb-true, not-true, not-false, eq-eqb, ne_eqb, le-leb, lt-ltb}
 use Rattle.position.specs.Position.{is_word, Word}
 use Rattle.position.proofs.PositionLaws.{word_gives, word_passes}
 use Rattle.fields.specs.Field.{field_of, flag_of, bit_of}
@@ -161,7 +161,7 @@ sound_pace : (p : Pace) → p.direction < 2 ^ 2 → p.age < 2 ^ 32 → is_paced 
 sound_pace p direction age e =
     let h2 = both _ (not (eqb p.direction 0) || eqb p.period 0) e in
     let h1 = both _ (leb p.period (2 ^ 32 - 2)) h2.0 in
-    let not3 : p.direction ≡ 3 → ⊥ = eqb-false p.direction 3 (not_true (eqb p.direction 3) h1.0) in
+    let not3 : p.direction ≡ 3 → ⊥ = eqb-false p.direction 3 (not-true (eqb p.direction 3) h1.0) in
     record {
       direction = omega arith;
       period = leb-true p.period (2 ^ 32 - 2) h1.1;
@@ -197,7 +197,7 @@ sampled_axis a held word config e =
       run_a = ltb-true (get_or a.runs 0 0) d s1.0;
       run_b = ltb-true (get_or a.runs 1 0) d s1.1;
       run_z = ltb-true (get_or a.runs 2 0) d s2.1;
-      apart = not_true (f.armed && f.homed) h1.1;
+      apart = not-true (f.armed && f.homed) h1.1;
       pace = sound_pace a.pace held.narrow.direction held.age h2.1;
       index = λ i. ltb-true 0 a.config.turn (otherwise (not f.index) (ltb 0 a.config.turn) h3.1 (rw i));
       unprimed = λ u. waiting_gives held (otherwise f.primed (is_waiting a) h4.1 u);

@@ -5,7 +5,7 @@ use mathlib.Core.Path.{◌≡◌, refl, sym, ap, subst, ◌∙◌}
 use mathlib.Core.Logic.{◌↔◌, ◌⊎◌, inl, inr, ⊎_elim}
 use mathlib.Core.Bool.{Bool, true, false, cond, not, ◌&&◌, ◌||◌, and-false, true≢false}
 use lib.Dec.{eqb, lit<}
-use borrow.Author.Tests.{eqb-true, not_true, ne_eqb, le-leb}
+use borrow.Author.Tests.{eqb-true, not-true, ne_eqb, le-leb}
 use Rattle.position.specs.Position.{Word}
 use Rattle.fields.specs.Field.{field_of}
 use Rattle.fields.proofs.BitLaws.{part_zero, part_clear}
@@ -78,7 +78,7 @@ status_of_lem Counter r e = rw (plain_full r (counter_parts r e).0, counter_unsa
 status_of_lem Broken r e =
     let h2 = both _ (not (is_counter r)) e in
     let h1 = both (not (is_empty r)) _ h2.0 in
-    rw (not_true (is_empty r) h1.0, not_true (is_sampled r) h1.1, not_true (is_counter r) h2.1)
+    rw (not-true (is_empty r) h1.0, not-true (is_sampled r) h1.1, not-true (is_counter r) h2.1)
 
 -- An empty row is four zero words.
 pub empty_gives : (r : Row) → status_of r ≡ Empty → r ≡ empty_row

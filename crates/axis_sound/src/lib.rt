@@ -1,4 +1,5 @@
 // Which rows are sound.
+#![tactic(auto)]
 ghost use Rattle.std.specs.Prelude.{◌≡◌, not, ◌&&◌, ◌||◌, eqb, ltb};
 ghost use Rattle.fields.specs.Field.{field_of};
 ghost use Rattle.axis.specs.Config.{sampled_config};
@@ -12,7 +13,7 @@ use axis::row::{Axis, Pace, Row};
 const LONGEST: u32 = 0xffff_fffe;
 
 // What a row is.
-#[derive(Drop)]
+#[derive(Clone, Copy)]
 pub enum Status {
     Empty,
     Sampled,

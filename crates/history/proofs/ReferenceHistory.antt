@@ -2,7 +2,7 @@
 -- edge's angle, and no check at an edge a whole number of turns away sets INDEX.
 use mathlib.Core.Path.{◌≡◌, refl, sym, ap, ◌∙◌, subst}
 use mathlib.Core.Logic.{◌↔◌}
-use mathlib.Core.Bool.{Bool, true, false, cond, ◌&&◌, true≢false, and-false, or_true}
+use mathlib.Core.Bool.{Bool, true, false, cond, ◌&&◌, true≢false, and-false, or-true}
 use mathlib.Core.List.{List, ◌∷◌}
 use Prim.Native.Nat.{ℕ}
 use native.Mathlib.Omega.{arith}
@@ -217,7 +217,7 @@ module _ {r : Row} (words : Words r) {h : List Event} {z : ℤ → Bool} {b : �
             ap (λ (y : Axis). position_of y.word) next
                 ∙ position_walk x s acts l
                 ∙ rw levels (home_position x x4_is one_is z on.follows c near now v),
-            ap (λ (y : Axis). y.flags.homed) next ∙ homed_history x s acts l ∙ rw (levels, now, or_true),
+            ap (λ (y : Axis). y.flags.homed) next ∙ homed_history x s acts l ∙ rw (levels, now, or-true),
             ap (λ (y : Axis). y.flags.range) next
                 ∙ range_history x s acts l
                 ∙ rw levels (home_clear x (shown z c) (acts_since r h) now),

@@ -1,6 +1,6 @@
 -- The laws of the count: one entry at a position in the range.
 use mathlib.Core.Path.{◌≡◌, refl, sym, ◌∙◌, ap}
-use mathlib.Core.Bool.{Bool, true, false, cond, not, ◌||◌, or-false, or_true}
+use mathlib.Core.Bool.{Bool, true, false, cond, not, ◌||◌, or-false, or-true}
 use lib.IntN.{ℤ, ◌+ℤ◌}
 use Rattle.position.specs.Position.{in_range, word_of, position_of}
 use Rattle.position.proofs.PositionLaws.{word_holds, position_word, word_position}
@@ -34,7 +34,7 @@ module _ (p : ℤ) (e : in_range p ≡ true) (m : Move) where
           let k = moves m (word_of p) r (rw back f) in
           let same = word_position (counted_word m (word_of p)) (count_keeps m (word_of p) (word_holds p e)) in
           (sym same ∙ ap word_of (k.0 ∙ ap (λ (z : ℤ). z +ℤ worth m) back), k.1 ∙ sym (or-false r))
-      go false f = let k = held m (word_of p) r (word_holds p e) (rw back f) in (k.0, k.1 ∙ sym (or_true r))
+      go false f = let k = held m (word_of p) r (word_holds p e) (rw back f) in (k.0, k.1 ∙ sym (or-true r))
 
   -- The word after an entry is that of the position, which moves unless the entry is held.
   pub count_word : counted_word m (word_of p) ≡ word_of (cond (holds p m) p (p +ℤ worth m))

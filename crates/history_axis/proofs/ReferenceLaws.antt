@@ -2,7 +2,7 @@
 -- angle, and no check at an edge a whole number of turns away sets INDEX.
 use mathlib.Core.Path.{◌≡◌, refl, sym, ◌∙◌, ap, subst}
 use mathlib.Core.Logic.{◌↔◌}
-use mathlib.Core.Bool.{Bool, true, false, cond, not, ◌&&◌, ◌||◌, true≢false, and-false, or_true, or-false}
+use mathlib.Core.Bool.{Bool, true, false, cond, not, ◌&&◌, ◌||◌, true≢false, and-false, or-true, or-false}
 use mathlib.Core.List.{List, [], ◌∷◌}
 use Prim.Native.Nat.{ℕ, zero, suc, ◌+◌, ◌*◌, ◌%◌, ◌≤◌}
 use native.Mathlib.Nat.{mod-eq_of_lt, add-mul-mod_self_right}
@@ -247,7 +247,7 @@ module _ (x : Axis) (kind : x.config.kind ≡ X4) (depth : x.config.depth ≡ 1)
 
         back : {a : ℤ} → EdgeAngle z a → Over a b c → (forward_at x (shown z c) h || backward_at x (shown z c) h) ≡ true
         back e (ahead p q) = rw (ahead_met e p q)
-        back e (astern p q) = rw (astern_met e p q, or_true)
+        back e (astern p q) = rw (astern_met e p q, or-true)
 
     not_astern : {a : ℤ} → b ≡ a -ℤ pos 1 → c ≡ a → backward_at x (shown z c) h ≡ false
     unfolding expected is_m

@@ -11,7 +11,7 @@ use row_calls::answer::Done;
 
 // The refusal's number, 0 for done; the layout number that LAYOUT found, else 0; and the value, 0 on a refusal.
 #[repr(C)]
-#[derive(Drop)]
+#[derive(Clone, Copy)]
 pub struct Answer {
     pub refusal: u32,
     pub found: u32,

@@ -8,7 +8,7 @@ use speed::Speed;
 // A speed's answer: the refusal's number; 0, since no speed reads a record; and number, remainder and divisor, all 0 on a
 // refusal.
 #[repr(C)]
-#[derive(Drop)]
+#[derive(Clone, Copy)]
 pub struct SpeedAnswer {
     pub refusal: u32,
     pub found: u32,

@@ -7,7 +7,7 @@ use row_view::answer::Viewed;
 
 // A view's answer: the refusal's number, the layout number found (0), and what the axis shows, each flag 0 or 1.
 #[repr(C)]
-#[derive(Drop)]
+#[derive(Clone, Copy)]
 pub struct ViewAnswer {
     pub refusal: u32,
     pub found: u32,

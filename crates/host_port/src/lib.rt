@@ -1,4 +1,5 @@
 // A port sample for C: it passes its arguments on to the table's own and shows the answer as a C struct.
+#![tactic(auto)]
 ghost use Rattle.std.specs.Prelude.{◌≡◌};
 ghost use Rattle.host_port.specs.Port.{answer_sampled, SamplesToC};
 
@@ -7,7 +8,7 @@ use table_port::Sampled;
 
 // A port sample's answer: the refusal's number, the layout number found (0), and three masks in which bit k is axis k's.
 #[repr(C)]
-#[derive(Drop)]
+#[derive(Clone, Copy)]
 pub struct SampledAnswer {
     pub refusal: u32,
     pub found: u32,

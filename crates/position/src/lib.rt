@@ -1,4 +1,6 @@
 // A position, and the word of a row that holds it.
+#![tactic(auto)]
+
 ghost use Rattle.std.specs.Prelude.{◌≡◌, true};
 ghost use Rattle.position.specs.Position.{in_range, is_word, Word, word_of, position_of};
 

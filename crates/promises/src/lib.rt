@@ -1,1 +1,2 @@
 // The promises: definitions and theorems about whole histories and whole tables. There is nothing to run.
+#![tactic(auto)]

@@ -1,5 +1,6 @@
 // Runs the readings of docs/RULES.md that are not marked P, through the public calls, and writes each on a line. A reading that
 // cannot be written ends it with an error.
+#![tactic(auto)]
 mod say; // say.rt: answers as text
 
 use axis::kind::Kind;

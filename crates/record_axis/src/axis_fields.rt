@@ -9,7 +9,7 @@ use refusal::Refusal;
 use tagged::field::{Field, read_field};
 
 // The configuration and the 64 bits of the position that were read, and where the next field begins.
-#[derive(Drop)]
+#[derive(Clone, Copy)]
 pub enum AxisRead {
     Said(Config, u64, usize),
     Refused(Refusal),

@@ -2,7 +2,7 @@
 use axis::config::Config;
 
 // A configuration and a position.
-#[derive(Drop)]
+#[derive(Clone, Copy)]
 pub struct Saved {
     pub config: Config,
     pub position: i64,

@@ -13,7 +13,7 @@ use tagged::field::{Field, read_field};
 use tagged::twos::of_bits;
 
 // What was read of an axis, and where the next field begins.
-#[derive(Drop)]
+#[derive(Clone, Copy)]
 pub enum SavedRead {
     Said(Saved, usize),
     Refused(Refusal),

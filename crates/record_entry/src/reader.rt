@@ -9,7 +9,7 @@ use refusal::Refusal;
 use tagged::field::{Field, read_field};
 
 // The entry that was read, and where the next field begins.
-#[derive(Drop)]
+#[derive(Clone, Copy)]
 pub enum EntryRead {
     Said(Entry, usize),
     Refused(Refusal),

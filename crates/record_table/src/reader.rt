@@ -13,7 +13,7 @@ use refusal::Refusal;
 use tagged::field::{Field, read_field};
 
 // Of a record that is accepted, how many axes it says and the first number above all of theirs; or why it is refused.
-#[derive(Drop)]
+#[derive(Clone, Copy)]
 pub enum Survey {
     Accepted(usize, u64),
     Refused(Refusal),

@@ -1,9 +1,11 @@
 // The reasons for saying no, and the numbers that docs/RULES.md gives them.
+#![tactic(auto)]
+
 ghost use Rattle.std.specs.Prelude.{◌≡◌};
 ghost use Rattle.refusal.specs.Refusal.{number_of, found_in};
 
 // Why a call is refused, by number; specs/Order.antt says in which order the reasons are checked.
-#[derive(Drop)]
+#[derive(Clone, Copy)]
 pub enum Refusal {
     Length,
     Axis,

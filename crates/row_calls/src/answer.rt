@@ -6,14 +6,14 @@ use axis::row::Row;
 use refusal::Refusal;
 
 // What a call makes of the named row: another row, or the reason for leaving it.
-#[derive(Drop)]
+#[derive(Clone, Copy)]
 pub enum Changed {
     To(Row),
     Kept(Refusal),
 }
 
 // What setup, erase, preset, arm, acknowledge and restore answer.
-#[derive(Drop)]
+#[derive(Clone, Copy)]
 pub enum Done {
     Yes,
     Refused(Refusal),

@@ -8,7 +8,7 @@ use crate::setup::{erase, setup};
 use axis::row::Row;
 
 // Such a call with its arguments: setup by kind, depth, width and counts per turn, preset by position.
-#[derive(Drop)]
+#[derive(Clone, Copy)]
 pub enum Change {
     Setup(u64, u64, u64, u64),
     Erase,

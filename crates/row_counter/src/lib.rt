@@ -1,4 +1,5 @@
 // A reading of a narrow counter: what it answers, and what it makes of the row.
+#![tactic(auto)]
 ghost use Rattle.std.specs.Prelude.{◌≡◌, true};
 ghost use Rattle.position.specs.Position.{in_range, Word};
 ghost use Rattle.axis.specs.Row.{row_of, Narrow};
@@ -14,7 +15,7 @@ use refusal::Refusal;
 use row_calls::answer::Changed;
 
 // What a reading answers, and what it makes of the named row.
-#[derive(Drop)]
+#[derive(Clone, Copy)]
 pub struct Taken {
     pub answer: Reckoned,
     pub row: Changed,

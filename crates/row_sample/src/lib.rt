@@ -1,4 +1,5 @@
 // A port sample on one row.
+#![tactic(auto)]
 ghost use Rattle.std.specs.Prelude.{◌≡◌};
 ghost use Rattle.axis_sound.specs.Sound.{SampledAxis};
 ghost use Rattle.axis_filter.specs.Lines.{raw_of};
@@ -13,7 +14,7 @@ use axis_sample::step::step_axis;
 use axis_sound::is_sampled;
 
 // The row after a sample, and its bits of the answer.
-#[derive(Drop)]
+#[derive(Clone, Copy)]
 pub struct SteppedRow {
     pub row: Row,
     pub double: bool,

@@ -2,7 +2,7 @@
 use refusal::Refusal;
 
 // What a view shows of an axis.
-#[derive(Drop)]
+#[derive(Clone, Copy)]
 pub struct View {
     pub kind: u8,
     pub position: i64,
@@ -15,7 +15,7 @@ pub struct View {
 }
 
 // What a view answers.
-#[derive(Drop)]
+#[derive(Clone, Copy)]
 pub enum Viewed {
     Shows(View),
     Refused(Refusal),

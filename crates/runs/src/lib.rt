@@ -1,1 +1,2 @@
 // Calls as data, and runs of them on a table: definitions and laws, nothing to run.
+#![tactic(auto)]

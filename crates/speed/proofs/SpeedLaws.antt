@@ -2,7 +2,7 @@
 use mathlib.Core.Path.{◌≡◌, sym, ap, subst}
 use mathlib.Core.Bool.{true, ◌&&◌, and-eq-true_iff}
 use mathlib.Core.Logic.{⊎_elim}
-use Prim.Native.Nat.{ℕ, suc, ◌+◌, ◌*◌, ◌-◌, ◌^◌, ◌≤◌, ◌<◌}
+use Prim.Native.Nat.{ℕ, zero, suc, ◌+◌, ◌*◌, ◌-◌, ◌^◌, ◌≤◌, ◌<◌}
 use native.Mathlib.Nat.{mul-le-mul, mul-le-mul_right}
 use native.Mathlib.Omega.{arith}
 use borrow.Author.Tests.{ltb-true, lt-ltb, le-leb}
@@ -89,6 +89,7 @@ one_way pv nv pd nd T k f a b rα rβ pΔ nΔ near c d h =
 pub divides_shaft : (α β : ℤ) (s T F : ℕ) {q : Quotient} → 0 < s → Divides (counted_from α β s *ℤ pos (1000 * F)) T q →
     2 * nat_abs (((q.number *ℤ pos T) *ℤ pos s) -ℤ ((β -ℤ α) *ℤ pos (1000 * F))) ≤ angle_bound s T F
 unfolding angle_bound
+divides_shaft α β zero T F {q = q} hs h = elim hs [ ]
 divides_shaft α β (suc k) T F {q} hs h =
     let f = 1000 * F in
     let D = counted_from α β (suc k) in

@@ -1,4 +1,5 @@
 // Division to the nearest whole number with what it leaves, and speed by count, on plain numbers, with no table.
+#![tactic(auto)]
 ghost use Rattle.std.specs.Prelude.{◌≡◌, ◌<◌, ◌^◌, nat_abs};
 ghost use Rattle.speed.specs.Rounding.{away_from, rounded, divided};
 ghost use Rattle.speed.specs.Speed.{good_count, good_samples, good_rate, speed_by_count};
@@ -6,7 +7,7 @@ ghost use Rattle.speed.specs.Speed.{good_count, good_samples, good_rate, speed_b
 use refusal::Refusal;
 
 // A number to the nearest, what it leaves, and what was divided by: number times divisor plus remainder is exact.
-#[derive(Drop)]
+#[derive(Clone, Copy)]
 pub struct Quotient {
     pub number: i64,
     pub remainder: i64,
@@ -14,7 +15,7 @@ pub struct Quotient {
 }
 
 // What a speed answers: thousandths of a count a second with what they leave, or the reason for saying no.
-#[derive(Drop)]
+#[derive(Clone, Copy)]
 pub enum Speed {
     Of(Quotient),
     Refused(Refusal),

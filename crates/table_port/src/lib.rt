@@ -1,4 +1,5 @@
 // A port sample on every row of a table.
+#![tactic(auto)]
 ghost use Rattle.std.specs.Prelude.{◌≡◌, ◌+◌, ◌*◌, ◌^◌, ◌<◌, ◌≤◌, length};
 ghost use Rattle.axis.specs.Limit.{most_axes};
 ghost use Rattle.table_port.specs.Port.{nibble, put_bit, noted, Below, SamplesRow, Samples};
@@ -8,7 +9,7 @@ use row_sample::{SteppedRow, step_row};
 use table_rows::{axes_in, read_row, write_row};
 
 // Bit k is axis k's.
-#[derive(Drop)]
+#[derive(Clone, Copy)]
 pub struct Masks {
     pub doubles: u16,
     pub index: u16,
@@ -16,7 +17,7 @@ pub struct Masks {
 }
 
 // What a port sample answers.
-#[derive(Drop)]
+#[derive(Clone, Copy)]
 pub enum Sampled {
     Seen(Masks),
     Refused(Refusal),

@@ -1,7 +1,7 @@
 -- The laws of a test of the rows of a table.
 use mathlib.Core.Path.{◌≡◌, sym, ◌∙◌}
 use mathlib.Core.Logic.{◌↔◌}
-use mathlib.Core.Bool.{Bool, true, false, ◌||◌, true≢false, or_true, or-false}
+use mathlib.Core.Bool.{Bool, true, false, ◌||◌, true≢false, or-true, or-false}
 use mathlib.Core.List.{List}
 use Prim.Native.Nat.{ℕ, zero, suc, ◌<◌}
 use native.Mathlib.Omega.{arith}
@@ -21,7 +21,7 @@ module _ (f : ℕ → Row → Bool) where
   any_row_lem (suc n) k t h e = go (test (eqb k n)) (any_row_lem n k t)
     where
       go : Decided (eqb k n) → (k < n → f k (row_at t k) ≡ true → any_row f n t ≡ true) → (any_row f n t || f n (row_at t n)) ≡ true
-      go (yes q) less = rw (← (eqb-true k n q), e) (or_true (any_row f k t))
+      go (yes q) less = rw (← (eqb-true k n q), e) (or-true (any_row f k t))
       go (no q) less = rw (less (let d = eqb-false k n q in omega arith) e)
 
   -- Where one of them passes, there is one that does.

@@ -6,7 +6,7 @@ use mathlib.Core.List.{List, [], ◌∷◌}
 use Prim.Native.Nat.{ℕ, suc, ◌+◌, ◌<◌}
 use native.Mathlib.Numerals.{add-one}
 use native.Mathlib.Omega.{arith}
-use borrow.Author.Tests.{not_true, not-false, eq-eqb, ne_eqb, le-leb, lt-leb, ltb-true, ltb-false}
+use borrow.Author.Tests.{not-true, not-false, eq-eqb, ne_eqb, le-leb, lt-leb, ltb-true, ltb-false}
 use lib.Dec.{leb, ltb}
 use lib.ListN.{length}
 use Rattle.integers.proofs.Balance.{Decided, yes, no, test}
@@ -29,7 +29,7 @@ use Rattle.table_record.specs.Restoring.{all_below, is_full, all_empty, filled, 
 -- One row more.
 pub empty_next : (k : ℕ) (t : List ℕ) → all_empty k t ≡ true → is_empty (row_at t k) ≡ true → all_empty (k + 1) t ≡ true
 unfolding any_row
-empty_next k t a e = rw (add-one, not_true (any_row is_full k t) a, e)
+empty_next k t a e = rw (add-one, not-true (any_row is_full k t) a, e)
 
 -- A row that is not empty is one too many.
 pub empty_not : (n k : ℕ) (t : List ℕ) → k < n → is_empty (row_at t k) ≡ false → all_empty n t ≡ false
@@ -37,7 +37,7 @@ empty_not n k t h e = ap not (any_row_lem is_full n k t h (ap not e))
 
 -- Where they all are, each is.
 pub empty_each : (n k : ℕ) (t : List ℕ) → all_empty n t ≡ true → k < n → is_empty (row_at t k) ≡ true
-empty_each n k t a h = not-false _ ((none_passes is_full n t).0 (not_true _ a) k h)
+empty_each n k t a h = not-false _ ((none_passes is_full n t).0 (not-true _ a) k h)
 
 -- Where each is, they all are.
 pub empty_all : (n : ℕ) (t : List ℕ) → ((k : ℕ) → k < n → is_empty (row_at t k) ≡ true) → all_empty n t ≡ true

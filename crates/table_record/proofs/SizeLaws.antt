@@ -1,6 +1,6 @@
 -- The laws of a table's entries, row by row: how many they are, and how long.
 use mathlib.Core.Path.{◌≡◌, refl, sym, ap, ◌∙◌}
-use mathlib.Core.Bool.{Bool, false, ◌||◌, or_true, or-false}
+use mathlib.Core.Bool.{Bool, false, ◌||◌, or-true, or-false}
 use mathlib.Core.List.{List, [], ◌∷◌, ◌++◌, append-nil}
 use Prim.Native.Nat.{ℕ, zero, suc, ◌+◌, ◌*◌, ◌≤◌}
 use native.Mathlib.Nat.{add-zero}
@@ -81,7 +81,7 @@ module _ (k : ℕ) (t : List ℕ) where
       go Empty = grows (entries_to k t) (any_broken k t) (x Empty) _ (sym (or-false (any_broken k t)))
       go Sampled = grows (entries_to k t) (any_broken k t) (x Sampled) _ (sym (or-false (any_broken k t)))
       go Counter = grows (entries_to k t) (any_broken k t) (x Counter) _ (sym (or-false (any_broken k t)))
-      go Broken = grows (entries_to k t) (any_broken k t) (x Broken) _ (sym (or_true (any_broken k t)))
+      go Broken = grows (entries_to k t) (any_broken k t) (x Broken) _ (sym (or-true (any_broken k t)))
 
 -- No rows are of no size.
 pub size_none : (t : List ℕ) → ◌≡◌ {A = Size} (record { count = 0; bytes = 0; broken = false }) (size_to 0 t)

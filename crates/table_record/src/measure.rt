@@ -9,7 +9,7 @@ use record_writer::axis_length;
 use table_rows::read_row;
 
 // How many rows are saved, how many bytes their entries are, and whether a row is broken.
-#[derive(Drop)]
+#[derive(Clone, Copy)]
 pub struct Size {
     pub count: usize,
     pub bytes: usize,

@@ -9,7 +9,7 @@ use record_axis::saved::Saved;
 use row_saving::kept;
 
 // An empty row adds nothing, a sampled row and a counter their axis, and a broken row refuses the save.
-#[derive(Drop)]
+#[derive(Clone, Copy)]
 pub enum RowSays {
     Nothing,
     Axis(Saved),

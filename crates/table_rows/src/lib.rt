@@ -1,4 +1,5 @@
 // The rows of a lent slice: how many there are, one read, one written, and the one that a call names.
+#![tactic(auto)]
 ghost use Rattle.std.specs.Prelude.{◌≡◌, ◌+◌, ◌*◌, ◌≤◌, length};
 ghost use Rattle.table_rows.specs.Table.{axes_in, row_at, set_row};
 ghost use Rattle.table_rows.specs.Located.{located};
@@ -8,7 +9,7 @@ use axis::row::Row;
 use refusal::Refusal;
 
 // The named row, or the reason that there is none: LENGTH or AXIS.
-#[derive(Drop)]
+#[derive(Clone, Copy)]
 pub enum Located {
     At(Row),
     Refused(Refusal),

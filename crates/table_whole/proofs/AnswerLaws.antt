@@ -5,7 +5,7 @@ use mathlib.Core.Bool.{true, false, ◌&&◌, true≢false}
 use mathlib.Core.List.{List, [], ◌∷◌}
 use Prim.Native.Nat.{ℕ, ◌<◌}
 use native.Mathlib.Omega.{arith}
-use borrow.Author.Tests.{not_true, not-false, eq-eqb, ne_eqb, eqb-true, eqb-false, le-leb, lt-leb, leb-true, leb-false, lt-ltb, ltb-true}
+use borrow.Author.Tests.{not-true, not-false, eq-eqb, ne_eqb, eqb-true, eqb-false, le-leb, lt-leb, leb-true, leb-false, lt-ltb, ltb-true}
 use lib.Dec.{eqb, leb, ltb}
 use lib.ListN.{length}
 use Rattle.integers.proofs.Balance.{Decided, yes, no, test}
@@ -60,7 +60,7 @@ below_each n (x ∷ es) = go (below_each n es)
 
 -- Where the rows are not all empty, there is one that is not.
 full_found : (n : ℕ) (t : List ℕ) → all_empty n t ≡ false → (k : ℕ) × (k < n) × (is_empty (row_at t k) ≡ false)
-full_found n t e = let p = any_found is_full n t (not-false _ e) in (p.0, p.1, not_true _ p.2)
+full_found n t e = let p = any_found is_full n t (not-false _ e) in (p.0, p.1, not-true _ p.2)
 
 -- ---- the save
 

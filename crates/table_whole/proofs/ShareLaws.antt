@@ -5,7 +5,7 @@ use mathlib.Core.Bool.{Bool, true, false, not, cond, ◌&&◌, ◌||◌, true≢
 use mathlib.Core.List.{List, [], ◌∷◌}
 use Prim.Native.Nat.{ℕ, ◌+◌, ◌*◌, ◌≤◌, ◌<◌}
 use native.Mathlib.Omega.{arith}
-use borrow.Author.Tests.{not_true, not-false, eq-eqb, ne_eqb, eqb-true, eqb-false}
+use borrow.Author.Tests.{not-true, not-false, eq-eqb, ne_eqb, eqb-true, eqb-false}
 use lib.Dec.{eqb}
 use lib.ListN.{length}
 use Rattle.integers.proofs.Balance.{Decided, yes, no, test}
@@ -64,7 +64,7 @@ module _ (k : ℕ) (t : List ℕ) (n : ℕ) (h : k < n) where
       from : (not (others_full k n t) && is_empty (row_at t k)) ≡ true → all_empty n t ≡ true
       from b =
           let p = both (not (others_full k n t)) (is_empty (row_at t k)) b in
-          empty_all n t (λ j l. each p.1 (not_true _ p.0) j l (test (eqb j k)))
+          empty_all n t (λ j l. each p.1 (not-true _ p.0) j l (test (eqb j k)))
 
 -- ---- the row
 

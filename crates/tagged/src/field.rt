@@ -7,14 +7,14 @@ ghost use Rattle.tagged.specs.Store.{Puts};
 use crate::bytes::{number, put_number};
 
 // A head that was read: its tag, and the length of the value that begins three bytes on.
-#[derive(Drop)]
+#[derive(Clone, Copy)]
 pub enum Head {
     Of(u8, usize),
     Cut,
 }
 
 // A field of a number that was read: its value, and where the next begins.
-#[derive(Drop)]
+#[derive(Clone, Copy)]
 pub enum Field {
     Value(u64, usize),
     Bad,

@@ -9,7 +9,7 @@ use crate::put::{put_line, size};
 pub const ROOM: usize = 73;
 
 // How many bytes were looked at, and the position and the doubles that they came to.
-#[derive(Drop)]
+#[derive(Clone, Copy)]
 pub struct Report {
     pub samples: u64,
     pub position: i64,

@@ -1,4 +1,5 @@
 // Traces one x4 axis: standard input is its samples, a byte each, and what they came to goes to standard output.
+#![tactic(auto)]
 ghost use Rattle.std.specs.Prelude.{◌-◌, ◌<◌, min, ◌≡◌, length};
 ghost use Rattle.trace_axis.specs.Trace.{LIMIT, fed_with};
 ghost use Rattle.trace.specs.Input.{found, ReadOnce, InputRead, Reported, ReportLines};
@@ -9,7 +10,7 @@ use trace_axis::trace::{LIMIT, Trace};
 
 // The trace after a read, and what the read answered: how many bytes it put at the front of what it was lent, 0 at the
 // end of the input, a number below 0 where it failed.
-#[derive(Drop)]
+#[derive(Clone, Copy)]
 struct Turn {
     trace: Trace,
     got: isize,

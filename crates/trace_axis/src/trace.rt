@@ -13,7 +13,7 @@ use text::report::Report;
 pub const LIMIT: u64 = 0xffff_ffff;
 
 // A table of one axis, and how many bytes were looked at.
-#[derive(Drop)]
+#[derive(Clone, Copy)]
 pub struct Trace {
     pub words: [u64; 4],
     pub samples: u64,

@@ -1,5 +1,5 @@
 use mathlib.Core.Path.{sym, ◌∙◌}
-use borrow.Author.Tests.{not_true, not-false}
+use borrow.Author.Tests.{not-true, not-false}
 use Rattle.axis_sound.proofs.PassLaws.{sampled_by_lem}
 use borrow.Author.Rules.{rules}
 use Rattle.axis_sound.proofs.is_sampled.Statement.{statement}
@@ -9,7 +9,7 @@ returns : tie.Need-returns
 returns c =
     let f = c.before in
     let s = f.before in
-    rw (sym f.is-formed.ensures ∙ not_true _ c.if1.true) at (sampled_by_lem s.args.r s.args.a s.requires)
+    rw (sym f.is-formed.ensures ∙ not-true _ c.if1.true) at (sampled_by_lem s.args.r s.args.a s.requires)
 
 returns_2 : tie.Need-returns-2
 returns_2 c =
@@ -18,7 +18,7 @@ returns_2 c =
     let s = f.before in
     rw (
       sym f.is-formed.ensures ∙ not-false _ p.before.if1.false,
-      sym p.is-paced.ensures ∙ not_true _ c.if2.true,
+      sym p.is-paced.ensures ∙ not-true _ c.if2.true,
     ) at (sampled_by_lem s.args.r s.args.a s.requires)
 
 returns_3 : tie.Need-returns-3
@@ -30,7 +30,7 @@ returns_3 c =
     rw (
       sym f.is-formed.ensures ∙ not-false _ p.before.if1.false,
       sym p.is-paced.ensures ∙ not-false _ i.before.if2.false,
-      sym i.is-indexed.ensures ∙ not_true _ c.if3.true,
+      sym i.is-indexed.ensures ∙ not-true _ c.if3.true,
     ) at (sampled_by_lem s.args.r s.args.a s.requires)
 
 returns_4 : tie.Need-returns-4

@@ -1,7 +1,7 @@
 use mathlib.Core.Path.{◌≡◌, sym, ◌∙◌}
 use mathlib.Core.Bool.{true}
 use native.Mathlib.Omega.{arith}
-use borrow.Author.Tests.{not_true, not-false}
+use borrow.Author.Tests.{not-true, not-false}
 use Rattle.record_axis.specs.Limits.{within_limits}
 use Rattle.record_axis.proofs.AxisLaws.{axis_long, length_bounds}
 use Rattle.record.proofs.WriterLaws.{outside, no_room, wrote, puts_record}
@@ -19,7 +19,7 @@ module _ (c : tie.After-axis-length) where
 returns : tie.Need-returns
 returns c =
     let a = c.before.before.before.args in
-    outside a.buf.now a.saved (sym c.before.is_Within.ensures ∙ not_true _ c.if1.true)
+    outside a.buf.now a.saved (sym c.before.is_Within.ensures ∙ not-true _ c.if1.true)
 
 add_if2 : tie.Need-overflow-add-if2
 add_if2 c = record { fits = omega (arith, c.axis-length.ensures, length_bounds (start c).args.saved.config.kind) }

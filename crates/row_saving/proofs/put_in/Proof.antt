@@ -1,11 +1,11 @@
 use mathlib.Core.Path.{sym, ap, ◌∙◌}
-use borrow.Author.Tests.{not_true, not-false}
+use borrow.Author.Tests.{not-true, not-false}
 use Rattle.row_calls.specs.declared.answer.Changed.TheVariants.{To}
 use Rattle.row_saving.proofs.put_in.Statement.{statement}
 use Rattle.row_saving.proofs.put_in.Tie as tie
 
 returns : tie.Need-returns
-returns c = rw (sym c.before.is-empty.ensures ∙ not_true _ c.if1.true)
+returns c = rw (sym c.before.is-empty.ensures ∙ not-true _ c.if1.true)
 
 said_row_requires : tie.Need-said-row-requires
 said_row_requires c κs = c.before.before.requires

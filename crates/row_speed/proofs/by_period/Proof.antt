@@ -1,6 +1,6 @@
 use mathlib.Core.Path.{◌≡◌, sym, ◌∙◌}
 use mathlib.Core.Bool.{true}
-use borrow.Author.Tests.{not_true, not-false, eq-eqb, ne_eqb}
+use borrow.Author.Tests.{not-true, not-false, eq-eqb, ne_eqb}
 use mir.Syntax.{w64}
 use mir.Val.{SFits}
 use Rattle.integers.proofs.Machine.{back}
@@ -16,7 +16,7 @@ good c = sym c.before.is-rate.ensures ∙ not-false _ c.if1.false
 
 returns : tie.Need-returns
 unfolding speed_of
-returns c = rw (sym c.before.is-rate.ensures ∙ not_true _ c.if1.true)
+returns c = rw (sym c.before.is-rate.ensures ∙ not-true _ c.if1.true)
 
 returns_2 : tie.Need-returns-2
 unfolding speed_of

@@ -1,5 +1,5 @@
 -- Speed by count: the three tests are the definition's one, and then the product and its quotient fit.
-use borrow.Author.Tests.{not_true, not-false}
+use borrow.Author.Tests.{not-true, not-false}
 use mathlib.Core.Path.{◌≡◌, sym, ap, ◌∙◌}
 use mathlib.Core.Bool.{true, ◌&&◌}
 use Prim.Native.Nat.{ℕ, ◌*◌, ◌^◌, ◌<◌}
@@ -52,7 +52,7 @@ module _ (c : tie.Else1) where
 
 returns : tie.Need-returns
 unfolding speed_by_count
-returns c = rw (sym (tested c.before) ∙ not_true _ c.if1.true)
+returns c = rw (sym (tested c.before) ∙ not-true _ c.if1.true)
 
 mul_f : tie.Need-overflow-mul-f
 mul_f c = record { fits = omega (arith, (known c).rate) }

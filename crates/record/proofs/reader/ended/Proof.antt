@@ -2,7 +2,7 @@
 use borrow.Author.Rules.{rules}
 use mathlib.Core.Path.{◌≡◌, sym, ap, ◌∙◌}
 use mathlib.Core.Bool.{true}
-use borrow.Author.Tests.{eq-eqb, ne_eqb, not_true, not-false}
+use borrow.Author.Tests.{eq-eqb, ne_eqb, not-true, not-false}
 use lib.Dec.{eqb}
 use lib.IntN.{ℤ}
 use lib.ListN.{length}
@@ -56,7 +56,7 @@ returns_3 : tie.Need-returns-3
 unfolding ended_at
 returns_3 c =
     let a = c.before.before.before.before.before in
-    rw (found a, whole c.before.before.before, limits c.before ∙ not_true _ c.if2.true)
+    rw (found a, whole c.before.before.before, limits c.before ∙ not-true _ c.if2.true)
 
 returns_4 : tie.Need-returns-4
 unfolding ended_at

@@ -1,6 +1,6 @@
 use mathlib.Core.Path.{◌≡◌, sym, ap, ◌∙◌}
 use mathlib.Core.Bool.{true}
-use borrow.Author.Tests.{not_true, not-false}
+use borrow.Author.Tests.{not-true, not-false}
 use Rattle.tagged.specs.Bytes.{starts}
 use Rattle.record.specs.declared.answer.Read.TheVariants.{Refused}
 use Rattle.record.specs.Opening.{opening}
@@ -14,7 +14,7 @@ opened c = sym c.before.opens.ensures ∙ not-false _ c.if1.false
 
 returns : tie.Need-returns
 unfolding read_as
-returns c = rw (sym c.before.before.opens.ensures ∙ not_true _ c.before.if1.true) (ap Refused c.layout-refusal.ensures)
+returns c = rw (sym c.before.before.opens.ensures ∙ not-true _ c.before.if1.true) (ap Refused c.layout-refusal.ensures)
 
 returns_2 : tie.Need-returns-2
 unfolding read_as

@@ -2,7 +2,7 @@
 use borrow.Author.Rules.{rules}
 use mathlib.Core.Path.{◌≡◌, sym, ◌∙◌}
 use mathlib.Core.Bool.{true}
-use borrow.Author.Tests.{not_true, not-false}
+use borrow.Author.Tests.{not-true, not-false}
 use mir.Syntax.{w8}
 use mir.Val.{Fits}
 use Rattle.tagged.specs.declared.field.Field.TheVariants.{Value}
@@ -44,7 +44,7 @@ returns c = rw (sym c.before.before.read-field.ensures ∙ c.enum_told.given.1)
 
 returns_2 : tie.Need-returns-2
 unfolding axis_at
-returns_2 c = rw (kinds c.before.before.before, sym c.before.is_Known.ensures ∙ not_true _ c.if1.true)
+returns_2 c = rw (kinds c.before.before.before, sym c.before.is_Known.ensures ∙ not-true _ c.if1.true)
 
 returns_3 : tie.Need-returns-3
 unfolding axis_at

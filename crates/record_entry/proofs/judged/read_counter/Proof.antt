@@ -1,5 +1,5 @@
 use borrow.Author.Rules.{rules}
-use borrow.Author.Tests.{not_true, not-false}
+use borrow.Author.Tests.{not-true, not-false}
 use mathlib.Core.Path.{◌≡◌, sym, ap, ◌∙◌}
 use lib.IntN.{ℤ}
 use Rattle.integers.proofs.Machine.{back}
@@ -31,7 +31,7 @@ returns c = rw (sym c.before.before.read-field.ensures ∙ c.enum_told.given.1)
 
 returns_2 : tie.Need-returns-2
 unfolding counter_from
-returns_2 c = rw (found c.before.before.before, sym c.before.is-good.ensures ∙ not_true _ c.if1.true)
+returns_2 c = rw (found c.before.before.before, sym c.before.is-good.ensures ∙ not-true _ c.if1.true)
 
 cast_width : tie.Need-overflow-cast-width
 cast_width c =

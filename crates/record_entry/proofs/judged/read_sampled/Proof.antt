@@ -1,5 +1,5 @@
 use borrow.Author.Rules.{rules}
-use borrow.Author.Tests.{not_true, not-false}
+use borrow.Author.Tests.{not-true, not-false}
 use mathlib.Core.Path.{◌≡◌, sym, ap, ◌∙◌}
 use lib.IntN.{ℤ}
 use Rattle.integers.proofs.Machine.{back}
@@ -51,7 +51,7 @@ returns c = rw (sym c.before.before.read-field.ensures ∙ c.enum_told.given.1)
 
 returns_2 : tie.Need-returns-2
 unfolding sampled_from
-returns_2 c = rw (deep c.before.before.before, sym c.before.is-good.ensures ∙ not_true _ c.if1.true)
+returns_2 c = rw (deep c.before.before.before, sym c.before.is-good.ensures ∙ not-true _ c.if1.true)
 
 returns_3 : tie.Need-returns-3
 unfolding sampled_from

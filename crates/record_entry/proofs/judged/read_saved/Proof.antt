@@ -1,6 +1,6 @@
 -- `read_saved` meets its contract: each exit is the answer of the first field or value that fails, by those that were read before it.
 use borrow.Author.Rules.{rules}
-use borrow.Author.Tests.{not_true, not-false}
+use borrow.Author.Tests.{not-true, not-false}
 use mathlib.Core.Path.{◌≡◌, sym, ap, ◌∙◌}
 use mathlib.Core.Bool.{true}
 use lib.IntN.{ℤ}
@@ -67,7 +67,7 @@ returns c = rw (sym c.before.before.read-field.ensures ∙ c.enum_told.given.1)
 
 returns_2 : tie.Need-returns-2
 unfolding saved_at
-returns_2 c = rw (kinds c.before.before.before, sym c.before.is_Known.ensures ∙ not_true _ c.if1.true)
+returns_2 c = rw (kinds c.before.before.before, sym c.before.is_Known.ensures ∙ not-true _ c.if1.true)
 
 returns_3 : tie.Need-returns-3
 unfolding saved_at
@@ -82,7 +82,7 @@ returns_4 : tie.Need-returns-4
 unfolding saved_at
 returns_4 c =
     let p = c.before in
-    rw (kinds (k (b p)), known (b p), placed (b p), range p ∙ not_true _ c.if2.true)
+    rw (kinds (k (b p)), known (b p), placed (b p), range p ∙ not-true _ c.if2.true)
 
 cast_read_counter : tie.Need-overflow-cast-read-counter
 cast_read_counter c = byte c.before.before.before.before.before.before.before.before.before.before.before.before

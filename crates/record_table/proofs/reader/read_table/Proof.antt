@@ -1,5 +1,5 @@
 use borrow.Author.Rules.{rules}
-use borrow.Author.Tests.{not_true, not-false, le-leb, lt-leb}
+use borrow.Author.Tests.{not-true, not-false, le-leb, lt-leb}
 use mathlib.Core.Path.{◌≡◌, sym, ap, ◌∙◌}
 use mathlib.Core.Bool.{true}
 use native.Mathlib.Omega.{arith}
@@ -31,7 +31,7 @@ module _ (c : tie.After-count) where
 
 returns : tie.Need-returns
 unfolding table_read_as
-returns c = rw (sym c.before.before.opens.ensures ∙ not_true _ c.before.if1.true) (ap Refused c.layout-refusal.ensures)
+returns c = rw (sym c.before.before.opens.ensures ∙ not-true _ c.before.if1.true) (ap Refused c.layout-refusal.ensures)
 
 returns_2 : tie.Need-returns-2
 unfolding table_read_as

@@ -1,7 +1,7 @@
 use mathlib.Core.Path.{◌≡◌, sym, ap, ◌∙◌}
 use mathlib.Core.Bool.{true, false}
 use Prim.Native.Nat.{ℕ}
-use borrow.Author.Tests.{not_true, not-false}
+use borrow.Author.Tests.{not-true, not-false}
 use Rattle.integers.proofs.Machine.{back}
 use Rattle.position.specs.Position.{in_range}
 use Rattle.axis.specs.Flags.{with_homed, with_range}
@@ -18,7 +18,7 @@ ok : (c : tie.Else1) → in_range c.before.before.args.position ≡ true
 ok c = sym (rw (back c.before.before.ranges.position) at c.before.in-range.ensures) ∙ not-false _ c.if1.false
 
 returns : tie.Need-returns
-returns c = rw (sym (rw (back c.before.before.ranges.position) at c.before.in-range.ensures) ∙ not_true _ c.if1.true)
+returns c = rw (sym (rw (back c.before.before.ranges.position) at c.before.in-range.ensures) ∙ not-true _ c.if1.true)
 
 word_of_requires : tie.Need-word-of-requires
 word_of_requires c κs = rw (back c.before.before.ranges.position) (ok c)

@@ -1,7 +1,7 @@
 use mathlib.Core.Path.{◌≡◌, sym, ap, subst, ◌∙◌}
 use mathlib.Core.Bool.{true}
 use Prim.Native.Nat.{◌^◌}
-use borrow.Author.Tests.{not_true, not-false}
+use borrow.Author.Tests.{not-true, not-false}
 use Rattle.axis.specs.Config.{good_config}
 use Rattle.axis.specs.Row.{row_of, fresh, Narrow}
 use Rattle.axis.specs.declared.config.Config.{Config}
@@ -30,11 +30,11 @@ made c = c.setup.ensures ∙ ap fresh c.before.config-of.ensures
 
 returns : tie.Need-returns
 unfolding setup_row
-returns c = rw (sym c.before.is-empty.ensures ∙ not_true _ c.if1.true)
+returns c = rw (sym c.before.is-empty.ensures ∙ not-true _ c.if1.true)
 
 returns_2 : tie.Need-returns-2
 unfolding setup_row
-returns_2 c = rw (vacant c.before.before, sym c.before.is-good.ensures ∙ not_true _ c.if2.true)
+returns_2 c = rw (vacant c.before.before, sym c.before.is-good.ensures ∙ not-true _ c.if2.true)
 
 config_of_requires : tie.Need-config-of-requires
 config_of_requires c κs = good c

@@ -2,7 +2,7 @@ use mathlib.Core.Path.{◌≡◌, refl, sym, ap, ◌∙◌}
 use mathlib.Core.Bool.{true}
 use Prim.Native.Nat.{◌-◌, ◌≤◌}
 use native.Mathlib.Omega.{arith}
-use borrow.Author.Tests.{not_true, not-false}
+use borrow.Author.Tests.{not-true, not-false}
 use lib.ListN.{length}
 use Rattle.axis_sound.specs.Sound.{is_empty}
 use Rattle.table_rows.specs.Table.{row_at}
@@ -36,7 +36,7 @@ module _ (c : tie.After-is-empty invariant_loop decreases_loop) where
 returns : tie.Need-returns invariant_loop decreases_loop
 returns c = sym (empty_not c.before.before.before.before.before.before.args.n c.before.before.before.before.loop.k
     c.before.before.before.before.before.before.args.table.now c.before.before.before.loop-test.true (vacant
-    c.before ∙ not_true _ c.if1.true))
+    c.before ∙ not-true _ c.if1.true))
 
 loop_again : tie.Need-loop-preserved invariant_loop decreases_loop
 loop_again c =

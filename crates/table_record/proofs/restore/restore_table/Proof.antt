@@ -5,7 +5,7 @@ use mathlib.Core.Bool.{true}
 use mathlib.Core.List.{List}
 use Prim.Native.Nat.{ℕ}
 use native.Mathlib.Omega.{arith}
-use borrow.Author.Tests.{not_true, not-false, le-leb, lt-leb}
+use borrow.Author.Tests.{not-true, not-false, le-leb, lt-leb}
 use lib.Dec.{leb}
 use lib.ListN.{length}
 use Rattle.tagged.specs.Bytes.{AllBytes}
@@ -92,7 +92,7 @@ all_empty_requires c κs = many c.before.before.before.before.before.before
 returns_3 : tie.Need-returns-3
 returns_3 c =
     let a = c.before in
-    restore_full (s (o (k a))) (t (o (k a))) (some (o (k a))) (found (k a)).0 (found (k a)).1 (there a) (vacant a ∙ not_true _
+    restore_full (s (o (k a))) (t (o (k a))) (some (o (k a))) (found (k a)).0 (found (k a)).1 (there a) (vacant a ∙ not-true _
     c.if3.true)
 
 fill_requires : tie.Need-fill-requires

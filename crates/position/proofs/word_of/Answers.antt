@@ -7,10 +7,9 @@ use Rattle.integers.specs.Integer.{plus, minus}
 use Rattle.integers.proofs.Balance.{bal_add}
 use Rattle.integers.proofs.Machine.{back, fits_i64, to_u64, no_neg, abs_nonneg}
 use Rattle.position.proofs.PositionLaws.{range_is, bal_word}
-use Rattle.position.proofs.word_of.Statement.{statement}
-use Rattle.position.proofs.word_of.Tie as tie
+use Rattle.position.proofs.word_of.Goals as goal
 
-module _ (c : tie.Start) where
+module _ (c : goal.Start) where
   abbrev p : ℤ
   p = c.args.position
 
@@ -23,16 +22,13 @@ module _ (c : tie.Start) where
   fits : SFits w64 s
   fits = let z = no_neg s above in fits_i64 s (omega (arith, range_is p c.requires, bal_add p (pos (2 ^ 62)))) (omega arith)
 
-add_result : tie.Need-overflow-add-result
-add_result c = rw (back c.ranges.position) (fits c)
+pub overflow_add-result : goal.overflow_add-result
+overflow_add-result c = rw (back c.ranges.position) (fits c)
 
-cast_result : tie.Need-overflow-cast-result
-cast_result c = rw (back c.ranges.position) (to_u64 (s c) (fits c) (above c))
+pub overflow_cast-result : goal.overflow_cast-result
+overflow_cast-result c = rw (back c.ranges.position) (to_u64 (s c) (fits c) (above c))
 
-returns : tie.Need-returns
+pub returns : goal.returns
 returns c =
     rw (back c.ranges.position, back (fits c), abs_nonneg (s c) (above c))
     (omega (arith, bal_word (p c) c.requires, bal_add (p c) (pos (2 ^ 62)), no_neg (s c) (above c)))
-
-pub word_of_spec : {M : Type 1} → statement M
-word_of_spec = tie.close (tie.spec add_result cast_result returns)
