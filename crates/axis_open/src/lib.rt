@@ -1,5 +1,6 @@
 // A row opened: what it is, and what it unpacks to.
 #![tactic(auto)]
+
 ghost use Rattle.std.specs.Prelude.{◌≡◌, false};
 ghost use Rattle.axis.specs.Row.{axis_of};
 ghost use Rattle.axis_sound.specs.Sound.{is_sampled, status_of, low_row};

@@ -1,5 +1,6 @@
 // Which rows are sound.
 #![tactic(auto)]
+
 ghost use Rattle.std.specs.Prelude.{◌≡◌, not, ◌&&◌, ◌||◌, eqb, ltb};
 ghost use Rattle.fields.specs.Field.{field_of};
 ghost use Rattle.axis.specs.Config.{sampled_config};
@@ -82,7 +83,7 @@ fn is_paced(p: Pace) -> bool
 // What a sampled row has whatever its axis did last: a plain row, a sampled configuration, short runs, and ARMED and HOMED not both.
 fn is_formed(r: Row, a: Axis) -> bool
     ensures { result ≡ is_plain r && sampled_config a.config.kind a.config.depth a.config.width r.w3
-        && (isShort a && not (a.flags.armed && a.flags.homed)) }
+        && (is_short a && not (a.flags.armed && a.flags.homed)) }
 {
     let c = a.config;
     let apart = !(a.flags.armed & a.flags.homed);
