@@ -1,5 +1,6 @@
 // The three transition tables, old code by new code.
 #![tactic(auto)]
+
 ghost use Rattle.std.specs.Prelude.{◌≡◌, ◌<◌};
 ghost use Rattle.axis_decode.specs.Decode.{code, entry, mark, is_e};
 
@@ -83,6 +84,7 @@ pub fn move_between(kind: u8, a0: bool, b0: bool, a1: bool, b1: bool) -> Move
 }
 
 // Whether an entry is a double step.
+#[tactic(auto, unfolding(crate::specs::Decode::is_e))]
 pub fn is_double(m: Move) -> bool
     ensures { result ≡ is_e m }
 {
