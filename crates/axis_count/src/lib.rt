@@ -1,5 +1,6 @@
 // Position, RANGE and doubles after an entry.
 #![tactic(auto)]
+
 ghost use Rattle.std.specs.Prelude.{◌≡◌};
 ghost use Rattle.axis_count.specs.Count.{counted_by, counted_doubles};
 
@@ -17,6 +18,7 @@ pub struct Counted {
 }
 
 // Word 0 and RANGE after an entry.
+#[tactic(auto, unfolding(crate::specs::Count::counted_word, crate::specs::Count::counted_range))]
 pub fn count(m: Move, word: u64, range: bool) -> Counted
     ensures { result ≡ counted_by m word range }
 {
@@ -45,6 +47,7 @@ pub fn count(m: Move, word: u64, range: bool) -> Counted
 }
 
 // Doubles after an entry.
+#[tactic(auto, unfolding(crate::specs::Count::counted_doubles))]
 pub fn count_doubles(m: Move, doubles: u16) -> u16
     ensures { result ≡ counted_doubles m doubles }
 {
