@@ -1,5 +1,6 @@
 // Direction, age and period after an entry.
 #![tactic(auto)]
+
 ghost use Rattle.std.specs.Prelude.{◌≡◌};
 ghost use Rattle.axis_pace.specs.Pace.{older, step_period, paced_by};
 
@@ -17,6 +18,7 @@ const BACK: u8 = 2;
 const OLDEST: u32 = 0xffff_ffff;
 
 // The age one sample on.
+#[tactic(auto, unfolding(crate::specs::Pace::older))]
 fn older_by_one(age: u32) -> u32
     ensures { result ≡ older age }
 {
@@ -24,6 +26,7 @@ fn older_by_one(age: u32) -> u32
 }
 
 // The period of a step to one side, at the direction and the age before it.
+#[tactic(auto, unfolding(crate::specs::Pace::step_period))]
 fn step_period(side: u8, direction: u8, age: u32) -> u32
     ensures { result ≡ step_period side direction age }
 {
@@ -35,6 +38,7 @@ fn step_period(side: u8, direction: u8, age: u32) -> u32
 }
 
 // Direction, age and period after an entry.
+#[tactic(auto, unfolding(crate::specs::Pace::paced_direction, crate::specs::Pace::paced_age, crate::specs::Pace::paced_period))]
 pub fn paced(m: Move, p: Pace) -> Pace
     ensures { result ≡ paced_by m p }
 {
