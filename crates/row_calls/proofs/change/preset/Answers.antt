@@ -1,0 +1,28 @@
+use Rattle.integers.proofs.Machine.{back}
+use mathlib.Core.Path.{sym, ◌∙◌}
+use Rattle.row_calls.specs.Calls.{place_row, preset_row}
+use Rattle.row_calls.proofs.StatusLaws.{placed_there}
+use Rattle.axis_open.proofs.OpenLaws.{opened_sampled, opened_counter}
+use Rattle.row_calls.proofs.change.preset.Goals as goal
+
+pub returns-in-Broken : goal.returns-in-Broken
+unfolding preset_row
+returns-in-Broken c = rw (sym c.open-opened.ensures.0 ∙ c.enum_told-1.given.1)
+
+pub returns-in-Empty : goal.returns-in-Empty
+unfolding preset_row
+returns-in-Empty c = rw (sym c.open-opened.ensures.0 ∙ c.enum_told-in-Empty-1.given.1)
+
+pub returns-in-Sampled : goal.returns-in-Sampled
+unfolding preset_row place_row
+returns-in-Sampled c =
+    let o = c in
+    let g = opened_sampled o.args.r o.open-opened.result o.open-opened.ensures c.enum_told-in-Sampled-1.given.1 in
+    rw g.0 (placed_there (back o.ranges.position) c.placed.ensures g.1)
+
+pub returns-in-Counter : goal.returns-in-Counter
+unfolding preset_row place_row
+returns-in-Counter c =
+    let o = c in
+    let g = opened_counter o.args.r o.open-opened.result o.open-opened.ensures c.enum_told-in-Counter-1.given.1 in
+    rw g.0 (placed_there (back o.ranges.position) c.placed-in-Counter.ensures g.1)
