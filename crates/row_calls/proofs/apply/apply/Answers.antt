@@ -1,4 +1,4 @@
 use Rattle.row_calls.proofs.apply.apply.Goals as goal
 
 pub returns-in-Erase : goal.returns-in-Erase
-returns-in-Erase c = rw c.enum_told-1.given.1 (c.erase.ensures _)
+returns-in-Erase c = rw c.in-Erase.is (c.erase.ensures _)

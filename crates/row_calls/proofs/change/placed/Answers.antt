@@ -1,5 +1,5 @@
-use mathlib.Core.Path.{◌≡◌, sym, ap, ◌∙◌}
-use mathlib.Core.Bool.{true, false}
+use mathlib.Core.Path.{sym, ap, ◌∙◌}
+use mathlib.Core.Bool.{false}
 use Prim.Native.Nat.{ℕ}
 use Rattle.integers.proofs.Machine.{back}
 use Rattle.position.specs.Position.{in_range}
@@ -9,17 +9,12 @@ use Rattle.row_calls.specs.declared.answer.Changed.TheVariants.{To}
 use Rattle.row_calls.specs.Change.{changed}
 use Rattle.row_calls.proofs.change.placed.Goals as goal
 
--- the position that was tested
-ok : (c : goal.Else-not-in_range) → in_range c.args.position ≡ true
-ok c = sym (rw (back c.ranges.position) at c.in_range.ensures) ∙ c.if-not-in_range.false
-
 pub returns : goal.returns
 unfolding changed
 returns c =
-    let s = c in
-    let u = s.args.x in
-    let w = rw (back s.ranges.position) at c.word_of.ensures in
-    rw (ok c)
+    let u = c.args.x in
+    let w = rw (back c.ranges.position) at c.word_of.ensures in
+    rw (sym (rw (back c.ranges.position) at c.in_range.ensures) ∙ c.if-not-in_range.false)
     (ap To
     (c.pack.ensures
     ∙ ap (λ (n : ℕ). row_of (changed u n (with_range false (with_homed false u.flags)) u.doubles)) w))

@@ -7,22 +7,20 @@ use Rattle.row_calls.proofs.change.preset.Goals as goal
 
 pub returns-in-Broken : goal.returns-in-Broken
 unfolding preset_row
-returns-in-Broken c = rw (sym c.open-opened.ensures.0 ∙ c.enum_told-1.given.1)
+returns-in-Broken c = rw (sym c.open-opened.ensures.0 ∙ c.in-Broken.is)
 
 pub returns-in-Empty : goal.returns-in-Empty
 unfolding preset_row
-returns-in-Empty c = rw (sym c.open-opened.ensures.0 ∙ c.enum_told-in-Empty-1.given.1)
+returns-in-Empty c = rw (sym c.open-opened.ensures.0 ∙ c.in-Empty.is)
 
 pub returns-in-Sampled : goal.returns-in-Sampled
 unfolding preset_row place_row
 returns-in-Sampled c =
-    let o = c in
-    let g = opened_sampled o.args.r o.open-opened.result o.open-opened.ensures c.enum_told-in-Sampled-1.given.1 in
-    rw g.0 (placed_there (back o.ranges.position) c.placed.ensures g.1)
+    let g = opened_sampled c.args.r c.open-opened.result c.open-opened.ensures c.in-Sampled.is in
+    rw g.0 (placed_there (back c.ranges.position) c.placed.ensures g.1)
 
 pub returns-in-Counter : goal.returns-in-Counter
 unfolding preset_row place_row
 returns-in-Counter c =
-    let o = c in
-    let g = opened_counter o.args.r o.open-opened.result o.open-opened.ensures c.enum_told-in-Counter-1.given.1 in
-    rw g.0 (placed_there (back o.ranges.position) c.placed-in-Counter.ensures g.1)
+    let g = opened_counter c.args.r c.open-opened.result c.open-opened.ensures c.in-Counter.is in
+    rw g.0 (placed_there (back c.ranges.position) c.placed-in-Counter.ensures g.1)
