@@ -1,5 +1,6 @@
 // The index line: the reference edge, homing and the check.
 #![tactic(auto)]
+
 ghost use Rattle.std.specs.Prelude.{◌≡◌, cond, ◌&&◌, ◌||◌, ◌^◌, nat_abs};
 ghost use Rattle.position.specs.Position.{position_of};
 ghost use Rattle.axis.specs.Kind.{X4};
@@ -25,6 +26,7 @@ pub fn is_met(e: Edge) -> bool
 }
 
 // The reference edge of a sample, by x4's entry and Z's old and new level.
+#[tactic(auto, unfolding(crate::specs::Index::edge_by))]
 fn edge_by(m: Move, old: bool, new: bool) -> Edge
     ensures { result ≡ edge_by m old new }
 {
@@ -72,6 +74,7 @@ fn distance(word: u64) -> u64
 }
 
 // Whether the position of a word is no multiple of the counts per turn.
+#[tactic(auto, unfolding(crate::specs::Index::off_turn))]
 fn off_turn(turn: u32, word: u64) -> bool
     ensures { result ≡ off_turn turn (position_of word) }
 {
