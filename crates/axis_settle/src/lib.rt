@@ -1,5 +1,6 @@
 // What the filtered lines of a sample make of a primed axis: count, age and period, index.
 #![tactic(auto)]
+
 ghost use Rattle.std.specs.Prelude.{◌≡◌, true};
 ghost use Rattle.axis_filter.specs.Lines.{three};
 ghost use Rattle.axis_settle.specs.Lines.{move_to, edge_to};
@@ -13,6 +14,7 @@ use axis_index::{Edge, check, home};
 use axis_pace::paced;
 
 // An axis at a reference edge: homed where it is armed, and else checked where it is homed.
+#[tactic(auto, unfolding(crate::specs::Settle::at_edge))]
 fn home_or_check(x: Axis) -> Axis
     ensures { result ≡ at_edge true x }
 {
@@ -43,6 +45,7 @@ fn at_edge(edge: bool, x: Axis) -> Axis
 }
 
 // An axis whose entry is m and whose lines become n.
+#[tactic(auto, unfolding(crate::specs::Settle::with_entry, axis_filter::specs::Lines::three))]
 fn with_entry(m: Move, n: Lines, x: Axis) -> Axis
     ensures { result ≡ with_entry m (three n) x }
 {
@@ -69,6 +72,7 @@ fn with_entry(m: Move, n: Lines, x: Axis) -> Axis
 }
 
 // A primed axis whose lines become n, where m is the entry and e the reference edge.
+#[tactic(auto, unfolding(crate::specs::Settle::settle))]
 pub fn settled(x: Axis, n: Lines, m: Move, e: Edge) -> Axis
     requires { (m ≡ move_to x (three n)) × (e ≡ edge_to x (three n)) }
     ensures { result ≡ settle x (three n) }
