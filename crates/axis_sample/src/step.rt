@@ -21,6 +21,7 @@ pub struct Stepped {
 
 // An axis that is not primed, after a sample: the levels are taken as they are. The flags are named one by one: with PRIMED set in place,
 // the compiled sample would carry the other four as one number.
+#[tactic(auto, unfolding(crate::specs::Step::outcome, crate::specs::Step::primed_by))]
 fn prime(x: Axis, s: Raw) -> Stepped
     ensures { result ≡ outcome false x s }
 {
@@ -83,6 +84,7 @@ fn advance(x: Axis, s: Raw) -> Stepped
 }
 
 // An axis after a sample.
+#[tactic(auto, unfolding(crate::specs::Step::step_axis))]
 pub fn step_axis(x: Axis, s: Raw) -> Stepped
     requires { Short x.config.depth (lines_of x) }
     ensures { result ≡ step_axis x s }
