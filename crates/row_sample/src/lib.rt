@@ -1,5 +1,6 @@
 // A port sample on one row.
 #![tactic(auto)]
+
 ghost use Rattle.std.specs.Prelude.{◌≡◌};
 ghost use Rattle.axis_sound.specs.Sound.{SampledAxis};
 ghost use Rattle.axis_filter.specs.Lines.{raw_of};
