@@ -1,5 +1,6 @@
 // The writer of a record, and of one axis's fields at any place.
 #![tactic(auto)]
+
 ghost use Rattle.std.specs.Prelude.{◌+◌, ◌≤◌, ◌≡◌, length};
 ghost use Rattle.tagged.specs.Store.{Puts};
 ghost use Rattle.record_axis.specs.AxisFields.{front_bytes, axis_bytes, axis_length};

@@ -1,0 +1,45 @@
+use mathlib.Core.Path.{◌≡◌, sym, ap, ◌∙◌}
+use native.Mathlib.Omega.{arith}
+use mir.Syntax.{w64}
+use mir.Val.{SFits, of_z}
+use Rattle.integers.proofs.Machine.{back}
+use Rattle.tagged.specs.Bytes.{bytes_of}
+use Rattle.tagged.specs.Field.{field_bytes}
+use Rattle.record_axis.specs.AxisFields.{front_bytes, axis_length}
+use Rattle.record_axis.proofs.AxisLaws.{length_bounds}
+use Rattle.record.proofs.WriterLaws.{puts_counter, puts_sampled}
+use borrow.Author.Rules.{rules}
+use Rattle.record_writer.proofs.put_axis.Goals as goal
+
+pub put_field-requires : goal.put_field-requires
+unfolding front_bytes field_bytes bytes_of
+put_field-requires c =
+    let p = c.put_front-at in
+    omega (arith, p.auto.buf, p.ensures.behind, c.requires, length_bounds c.args.saved.config.kind)
+
+pub returns-then-is_counter : goal.returns-then-is_counter
+returns-then-is_counter c =
+    let f : SFits w64 c.args.saved.position = search rules in
+    puts_counter c.args.saved (c.bits_of.ensures ∙ ap (of_z w64) (back f)) (sym c.is_counter.ensures ∙ c.if-is_counter.true)
+    c.put_front-at.ensures c.put_field.ensures
+
+pub put_field-at-requires : goal.put_field-at-requires
+unfolding front_bytes field_bytes bytes_of
+put_field-at-requires c =
+    let p = c.put_front-at in
+    omega (arith, p.auto.buf, p.ensures.behind, c.requires, length_bounds c.args.saved.config.kind)
+
+pub put_field-requires-2 : goal.put_field-requires-2
+unfolding front_bytes field_bytes bytes_of
+put_field-requires-2 c =
+    let p = c.put_front-at in
+    let q = c.put_field-at in
+    let e = sym c.is_counter.ensures ∙ c.if-is_counter.false in
+    let n : axis_length c.args.saved.config.kind ≡ 26 = rw e in
+    omega (arith, n, p.auto.buf, p.ensures.behind, q.auto.buf, q.ensures.behind)
+
+pub returns : goal.returns
+returns c =
+    let f : SFits w64 c.args.saved.position = search rules in
+    puts_sampled c.args.saved (c.bits_of.ensures ∙ ap (of_z w64) (back f)) (sym c.is_counter.ensures ∙ c.if-is_counter.false)
+    c.put_front-at.ensures c.put_field-at.ensures c.put_field-2.ensures
