@@ -1,5 +1,6 @@
 // Division to the nearest whole number with what it leaves, and speed by count, on plain numbers, with no table.
 #![tactic(auto)]
+
 ghost use Rattle.std.specs.Prelude.{◌≡◌, ◌<◌, ◌^◌, nat_abs};
 ghost use Rattle.speed.specs.Rounding.{away_from, rounded, divided};
 ghost use Rattle.speed.specs.Speed.{good_count, good_samples, good_rate, speed_by_count};
