@@ -1,5 +1,6 @@
 // View: what an axis shows.
 #![tactic(auto)]
+
 ghost use Rattle.std.specs.Prelude.{◌≡◌};
 ghost use Rattle.position.specs.Position.{Word};
 ghost use Rattle.row_view.specs.View.{view_of, view_row};
