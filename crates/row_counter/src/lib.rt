@@ -1,5 +1,6 @@
 // A reading of a narrow counter: what it answers, and what it makes of the row.
 #![tactic(auto)]
+
 ghost use Rattle.std.specs.Prelude.{◌≡◌, true};
 ghost use Rattle.position.specs.Position.{in_range, Word};
 ghost use Rattle.axis.specs.Row.{row_of, Narrow};

@@ -1,5 +1,6 @@
 // Save and restore.
 #![tactic(auto)]
+
 ghost use Rattle.std.specs.Prelude.{◌≡◌, true, length};
 ghost use Rattle.position.specs.Position.{Word};
 ghost use Rattle.record_axis.specs.Limits.{within_limits};

@@ -1,5 +1,6 @@
 // Speed by period.
 #![tactic(auto)]
+
 ghost use Rattle.std.specs.Prelude.{◌≡◌, max};
 ghost use Rattle.row_speed.specs.Speed.{sign_of, speed_of, speed_row};
 

@@ -1,5 +1,6 @@
 // A port sample on every row of a table.
 #![tactic(auto)]
+
 ghost use Rattle.std.specs.Prelude.{◌≡◌, ◌+◌, ◌*◌, ◌^◌, ◌<◌, ◌≤◌, length};
 ghost use Rattle.axis.specs.Limit.{most_axes};
 ghost use Rattle.table_port.specs.Port.{nibble, put_bit, noted, Below, SamplesRow, Samples};
