@@ -1,8 +1,39 @@
-/* What the kit's library `os` asks of C, for a native program on a machine for which the kit has it not (it has it for x86-64):
-   the error number and the program's arguments. tools/native links it, and nothing that is proved rests on it. */
+/* What the kit's libraries ask of C, for a program of tools/native --arm, since the kit has it for x86-64 alone: memory, the error number
+   and the program's arguments. Nothing that is proved rests on it. */
 #include <errno.h>
+#include <stdbool.h>
 #include <stddef.h>
+#include <stdlib.h>
 #include <sys/types.h>
+
+/* Whether there is memory, and where; where there is none, at a byte that nobody owns. */
+typedef struct tried {
+    bool ok;
+    void *p;
+} tried;
+
+static tried tried_at(void *p)
+{
+    static char nothing;
+    return (tried){p, p ? p : &nothing};
+}
+
+/* A block of so many bytes; one of none takes as many as its alignment, so that it has a place of its own. */
+tried rattle_alloc(size_t bytes, size_t alignment)
+{
+    return tried_at(malloc(bytes ? bytes : alignment));
+}
+
+tried rattle_realloc(void *p, size_t kept, size_t bytes, size_t alignment)
+{
+    (void)kept;
+    return tried_at(realloc(p, bytes ? bytes : alignment));
+}
+
+void rattle_dealloc(void *p)
+{
+    free(p);
+}
 
 static size_t count;
 static char **words;
