@@ -41,6 +41,7 @@ pub fn of_refusal(e: Refusal) -> Answer
 }
 
 // The answer of a calculation.
+#[tactic(auto, unfolding(crate::specs::Answer::answer_to))]
 pub fn of_reckoned(r: Reckoned) -> Answer
     ensures { result ≡ answer_to r }
 {
@@ -51,6 +52,7 @@ pub fn of_reckoned(r: Reckoned) -> Answer
 }
 
 // The answer of a call that says only that it was done.
+#[tactic(auto, unfolding(crate::specs::Answer::answer_done))]
 pub fn of_done(d: Done) -> Answer
     ensures { result ≡ answer_done d }
 {
@@ -61,6 +63,7 @@ pub fn of_done(d: Done) -> Answer
 }
 
 // The answer of a record test.
+#[tactic(auto, unfolding(crate::specs::Answer::answer_test))]
 pub fn of_tested(t: Tested) -> Answer
     ensures { result ≡ answer_test t }
 {
@@ -71,6 +74,7 @@ pub fn of_tested(t: Tested) -> Answer
 }
 
 // The answer of a save: the number of bytes, of which a record has at most 34.
+#[tactic(auto, unfolding(crate::specs::Answer::answer_written))]
 pub fn of_written(w: Written) -> Answer
     requires { written_bytes w ≤ 34 }
     ensures { result ≡ answer_written w }

@@ -18,6 +18,7 @@ pub struct SpeedAnswer {
 }
 
 // The answer of a speed.
+#[tactic(auto, unfolding(crate::specs::Answer::answer_speed))]
 pub fn of_speed(s: Speed) -> SpeedAnswer
     ensures { result ≡ answer_speed s }
 {

@@ -23,6 +23,7 @@ pub struct ViewAnswer {
 }
 
 // The answer of a view.
+#[tactic(auto, unfolding(crate::specs::Answer::answer_view))]
 pub fn of_viewed(v: Viewed) -> ViewAnswer
     ensures { result ≡ answer_view v }
 {
