@@ -1,5 +1,6 @@
 // A port sample for C: it passes its arguments on to the table's own and shows the answer as a C struct.
 #![tactic(auto)]
+
 ghost use Rattle.std.specs.Prelude.{◌≡◌};
 ghost use Rattle.host_port.specs.Port.{answer_sampled, SamplesToC};
 
@@ -18,6 +19,7 @@ pub struct SampledAnswer {
 }
 
 // The answer of a port sample.
+#[tactic(auto, unfolding(crate::specs::Port::answer_sampled))]
 fn of_sampled(s: Sampled) -> SampledAnswer
     ensures { result ≡ answer_sampled s }
 {
