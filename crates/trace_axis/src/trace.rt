@@ -58,6 +58,7 @@ impl Trace {
     }
 
     // How many bytes were looked at, and the axis's position and doubles.
+    #[tactic(auto, unfolding(crate::specs::Trace::report_of))]
     pub fn report(self) -> Report
         ensures { result ≡ report_of self }
     {
