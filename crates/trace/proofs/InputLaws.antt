@@ -2,45 +2,25 @@
 use Prim.Native.Nat.{ℕ, zero, suc, ◌+◌, ◌-◌, ◌≤◌, ◌<◌, min}
 use native.Mathlib.Omega.{arith}
 use mathlib.Core.Path.{◌≡◌, refl, sym, ap, subst, ◌∙◌}
-use mathlib.Core.Bool.{true, false}
+use mathlib.Core.Bool.{Bool, true, false}
 use mathlib.Core.List.{List, [], ◌∷◌, ◌++◌}
-use lib.IntN.{ℤ, pos, negsuc}
 use lib.ListN.{length, take, drop, length-take, length-append}
-use lib.Seq.{sets, take-nil, length-take-le, length_front, take_at, drop_at, length-sets, sets-eq}
-use lib.Signed.{lt_z, le_z}
-use borrow.Author.Tests.{ltb-true, leb-true, leb-false}
-use Rattle.io.specs.Counts.{clamp_len}
-use Rattle.libc.specs.Io.{Moved}
+use lib.Dec.{ltb}
+use borrow.Author.Tests.{ltb-true, ltb-false}
+use lib.Seq.{sets, take-nil, length-take-le, take_at, length-sets, sets-eq}
+use Rattle.std.specs.Prelude.{Option, None, Some, Result, Ok, Err, IfOk, IsErr, IfSome}
+use Rattle.std.specs.Io.KnownBytes.{Consumes, IsAtEnd}
+use Rattle.std.proofs.Common.{append_assoc}
+use Rattle.std.proofs.lemmas.List.{append-nil}
+use Rattle.std.specs.declared.io.Error.{Error}
 use Rattle.text.specs.Text.{text_of, Writes}
 use Rattle.text.specs.declared.report.Report.{Report}
 use Rattle.trace_axis.specs.Trace.{LIMIT, started, fed_with, report_of, input_report}
 use Rattle.trace_axis.specs.declared.trace.Trace.{Trace}
-use Rattle.trace_axis.proofs.TraceLaws.{cut, fed_none, rule}
+use Rattle.trace_axis.proofs.TraceLaws.{cut, fed_none, rule, limit_rule}
 use Rattle.trace.specs.Input.{found, Found, Failed, room_for, ReadOnce}
-use Rattle.trace.specs.Input.{Reads, none, more, Ends, last, full, InputRead, Reported, ReportLines}
+use Rattle.trace.specs.Input.{Reads, none, more, Ends, last, full, InputRead, InputTaken, Reported, ReportLines}
 use Rattle.trace.specs.declared.Turn.{Turn}
-
--- ---- what a read's answer says
-
--- An answer above 0 says that bytes were found.
-pub above_found : (z : ℤ) → le_z z (pos 0) ≡ false → Found z
-above_found (pos n) e = leb-false n 0 e
-above_found (negsuc n) e = let z : ◌≡◌ {A = ℕ} 0 1 = cc in omega arith
-
--- No other answer does.
-pub below_none : (z : ℤ) → le_z z (pos 0) ≡ true → Found z → ⊥
-below_none (pos n) e h = omega (arith, leb-true n 0 e)
-below_none (negsuc n) e h = h
-
--- An answer below 0 says that the read failed.
-pub below_failed : (z : ℤ) → lt_z z (pos 0) ≡ true → Failed z
-below_failed (pos n) e = absurd (omega (arith, ltb-true n 0 e))
-below_failed (negsuc n) e = tt
-
--- No other answer does.
-pub above_good : (z : ℤ) → lt_z z (pos 0) ≡ false → Failed z → ⊥
-above_good (pos n) e h = h
-above_good (negsuc n) e h = let z : ◌≡◌ {A = ℕ} 0 1 = cc in omega arith
 
 -- ---- the bytes that a read found
 
@@ -52,42 +32,29 @@ take_min (suc n) (a ∷ d) =
     let e : min (suc n) (suc (length d)) ≡ suc (min n (length d)) = omega arith in
     rw e (ap (λ (l : List ℕ). a ∷ l) (take_min n d))
 
--- They are the front of the buffer that `io` counts by the read's answer.
-pub found_counted : (z : ℤ) (d : List ℕ) → take (clamp_len z (length d)) d ≡ found z d
-found_counted (pos n) d = take_min n d
-found_counted (negsuc n) d = refl
+-- They are the front of the buffer, of as many bytes as the read answered.
+pub found_counted : {E : Type 0} (r : Result ℕ E) (d : List ℕ) →
+    ((n : ℕ) → r ≡ Ok n → take (min n (length d)) d ≡ found r d) × (IsErr r → found r d ≡ [])
+found_counted (Ok n) d = (λ m e. let k : m ≡ n = cc in rw k (take_min n d), λ h. absurd (let none : ⊥ = cc in none))
+found_counted (Err x) d = (λ m e. absurd (let none : ⊥ = cc in none), λ h. refl)
 
 -- A read that found no bytes.
-found_none : (z : ℤ) (d : List ℕ) → (Found z → ⊥) → found z d ≡ []
-found_none (pos zero) d h = refl
-found_none (pos (suc n)) d h = absurd (h (omega arith))
-found_none (negsuc n) d h = refl
+found_none : {E : Type 0} (r : Result ℕ E) (d : List ℕ) → (Found r → ⊥) → found r d ≡ []
+found_none (Ok zero) d h = refl
+found_none (Ok (suc n)) d h = absurd (h (omega arith))
+found_none (Err e) d h = refl
 
 -- They are no more than the read was lent.
-found_within : (z : ℤ) (d : List ℕ) (r : ℕ) → Moved r z → length (found z d) ≤ r
-found_within (pos n) d r h = rw (length-take n d) (omega arith)
-found_within (negsuc n) d r h = omega arith
+found_within : {E : Type 0} (r : Result ℕ E) (d : List ℕ) (k : ℕ) → IfOk r (λ n. n ≤ k) → length (found r d) ≤ k
+found_within (Ok n) d k h = rw (length-take n d) (omega arith)
+found_within (Err e) d k h = omega arith
 
 -- They are some where the read found some.
-found_some : (z : ℤ) (d : List ℕ) (r : ℕ) → Moved r z → r ≤ length d → Found z → 0 < length (found z d)
-found_some (pos n) d r m h f = rw (length-take-le n d (omega arith)) f
-found_some (negsuc n) d r m h f = absurd f
+found_some : {E : Type 0} (r : Result ℕ E) (d : List ℕ) (k : ℕ) → IfOk r (λ n. n ≤ k) → k ≤ length d → Found r → 0 < length (found r d)
+found_some (Ok n) d k m h f = rw (length-take-le n d (omega arith)) f
+found_some (Err e) d k m h f = absurd f
 
 -- ---- one read
-
--- A read that was lent the front of a buffer.
-pub read_front : (x : Trace) (b e : List ℕ) (r : ℕ) (z : ℤ) (y : Trace) → x.samples < LIMIT → 0 < length b → r ≡ room_for x b →
-    length e ≡ length (take r b) → Moved (length (take r b)) z → y ≡ fed_with x (found z (e ++ drop r b)) →
-    ReadOnce x b (e ++ drop r b) (record { trace = y; got = z })
-read_front x b e r z y hx hb er el m ey =
-    let l : length (take r b) ≡ r = length-take-le r b (omega arith) in
-    record {
-      some = omega arith;
-      answer = rw (← er, ← l) m;
-      long = length_front b e r el;
-      behind = rw (← er) (drop_at e (drop r b) r (el ∙ l));
-      trace = ey;
-    }
 
 -- Bytes that are all looked at are all counted.
 samples_after : (x : Trace) (bs : List ℕ) → length bs ≤ LIMIT - x.samples → (fed_with x bs).samples ≡ x.samples + length bs
@@ -101,7 +68,7 @@ read_counts x b d t o =
     omega (arith, samples_after x (found t.got d) (omega arith), ap (λ (y : Trace). y.samples) o.trace)
 
 -- A read that answers a number finds that many bytes, no fewer, and all of them are looked at.
-pub read_samples : (x : Trace) (b d : List ℕ) (t : Turn) (n : ℕ) → ReadOnce x b d t → t.got ≡ pos n →
+pub read_samples : (x : Trace) (b d : List ℕ) (t : Turn) (n : ℕ) → ReadOnce x b d t → t.got ≡ Ok n →
     (length (found t.got d) ≡ n) × (t.trace.samples ≡ x.samples + n)
 read_samples x b d t n o e =
     let m : n ≤ room_for x b = rw e at o.answer in
@@ -117,10 +84,23 @@ fewer_left x b d t o f =
 
 -- ---- the whole input
 
--- Bytes that were read so far, whichever they are.
-pub record SoFar (x : Trace) : Type 0 where
+-- Bytes that were read so far, whichever they are, of those that the reader had.
+pub record SoFar (old new : Option (List ℕ)) (x : Trace) : Type 0 where
   pub bytes : List ℕ
   pub reads : Reads bytes x
+  pub taken : Consumes old new bytes
+
+-- Before the first read they are none.
+pub taken_none : (old : Option (List ℕ)) → Consumes old old []
+taken_none None = tt
+taken_none (Some xs) = refl
+
+-- One read more takes its bytes behind those before it.
+pub taken_more : (old mid new : Option (List ℕ)) (a b : List ℕ) → Consumes old mid a → Consumes mid new b → Consumes old new (a ++ b)
+taken_more None mid new a b p q = tt
+taken_more (Some xs) None new a b p q = absurd p
+taken_more (Some xs) (Some ys) None a b p q = absurd q
+taken_more (Some xs) (Some ys) (Some zs) a b p q = rw (p, q) (sym (append_assoc a b zs))
 
 -- The trace of one read after another is that of their bytes, each of them once and in order.
 pub reads_fed : {bs : List ℕ} {x : Trace} → Reads bs x → x ≡ fed_with started bs
@@ -144,7 +124,7 @@ ends_fed (last {x} {b} {d} {t} o n) = o.trace ∙ ap (fed_with x) (found_none t.
 ends_fed (full h) = refl
 
 -- Behind the limit no read is made.
-full_ends : {x : Trace} {t : Turn} → Ends x t → 4294967295 ≤ x.samples → t.got ≡ pos 0
+full_ends : {x : Trace} {t : Turn} → Ends x t → 4294967295 ≤ x.samples → t.got ≡ Ok 0
 full_ends (last {x} {b} o n) h = absurd (omega (arith, o.some))
 full_ends (full g) h = refl
 
@@ -159,13 +139,66 @@ pub read_report : {t : Turn} (i : InputRead t) → report_of t.trace ≡ input_r
 read_report i = ap report_of (ends_fed i.ends ∙ reads_fed i.reads) ∙ rule i.bytes
 
 -- Where 4,294,967,295 bytes were read, no read has failed.
-pub read_full : {t : Turn} (i : InputRead t) → length i.bytes ≡ 4294967295 → t.got ≡ pos 0
+pub read_full : {t : Turn} (i : InputRead t) → length i.bytes ≡ 4294967295 → t.got ≡ Ok 0
 read_full i e = full_ends i.ends (omega (arith, (reads_taken i.reads).0))
 
 -- Where fewer were read, the last read was lent a byte or more and found none.
 pub read_short : {t : Turn} (i : InputRead t) → length i.bytes < 4294967295 →
     (b : List ℕ) × (d : List ℕ) × ReadOnce i.fed b d t × (Found t.got → ⊥)
 read_short i h = short_ends i.ends (omega (arith, (reads_taken i.reads).0))
+
+-- ---- the bytes that the reader had
+
+-- A read that neither found bytes nor failed answers 0.
+found_end : {E : Type 0} (r : Result ℕ E) → (Found r → ⊥) → (Failed r → ⊥) → r ≡ Ok 0
+found_end (Ok zero) h g = refl
+found_end (Ok (suc n)) h g = absurd (h (omega arith))
+found_end (Err e) h g = absurd (g tt)
+
+-- A read more that found bytes.
+pub taken_on : {old mid new : Option (List ℕ)} {x : Trace} {b d : List ℕ} {t : Turn} → SoFar old mid x → ReadOnce x b d t →
+    Found t.got → Consumes mid new (found t.got d) → SoFar old new t.trace
+taken_on {old} {mid} {new} {x} {b} {d} {t} s o f q = record {
+  bytes = s.bytes ++ found t.got d;
+  reads = more s.reads o f;
+  taken = taken_more old mid new s.bytes (found t.got d) s.taken q;
+}
+
+-- A read that found none.
+pub taken_last : {old mid new : Option (List ℕ)} {x : Trace} {b d : List ℕ} {t : Turn} → SoFar old mid x → ReadOnce x b d t →
+    (Found t.got → ⊥) → Consumes mid new (found t.got d) → (t.got ≡ Ok 0 → IsAtEnd new) → InputTaken old new t
+taken_last {old} {mid} {new} {x} {b} {d} {t} s o f q z =
+    let n : s.bytes ++ found t.got d ≡ s.bytes = rw (found_none t.got d f) (append-nil s.bytes) in
+    record {
+      input = record { bytes = s.bytes; fed = x; reads = s.reads; ends = last o f };
+      taken = subst (Consumes old new) n (taken_more old mid new s.bytes (found t.got d) s.taken q);
+      all = λ g _. z (found_end t.got f g);
+    }
+
+-- No byte left that would be looked at.
+pub taken_full : {old new : Option (List ℕ)} {x : Trace} → SoFar old new x → LIMIT ≤ x.samples →
+    InputTaken old new (record { trace = x; got = Ok 0 })
+taken_full {old} {new} {x} s h = record {
+  input = record { bytes = s.bytes; fed = x; reads = s.reads; ends = full {x = x} h };
+  taken = s.taken;
+  all = λ g l. absurd (omega (arith, (reads_taken s.reads).0));
+}
+
+-- Where the bytes that the reader had are known, the report of those that were read is that of all of them.
+pub taken_report : (old new : Option (List ℕ)) {t : Turn} (i : InputTaken old new t) → (Failed t.got → ⊥) →
+    IfSome old (λ xs. input_report i.input.bytes ≡ input_report xs)
+taken_report None new i g = tt
+taken_report (Some xs) None i g = absurd i.taken
+taken_report (Some xs) (Some ys) {t} i g = go i.input.bytes i.taken (i.all g) (ltb (length i.input.bytes) 4294967295) refl
+  where
+    go : (bs : List ℕ) → xs ≡ bs ++ ys → (length bs < LIMIT → ys ≡ []) → (l : Bool) → ltb (length bs) 4294967295 ≡ l →
+        input_report bs ≡ input_report xs
+    go bs k a true e =
+        let n : ys ≡ [] = a (ltb-true (length bs) 4294967295 e) in
+        ap input_report (sym (k ∙ ap (λ (l : List ℕ). bs ++ l) n ∙ append-nil bs))
+    go bs k a false e =
+        let m : 4294967295 ≤ length bs = ltb-false (length bs) 4294967295 e in
+        sym (rule bs) ∙ ap report_of (sym (limit_rule bs ys m)) ∙ rule (bs ++ ys) ∙ ap input_report (sym k)
 
 -- ---- the report
 
@@ -179,24 +212,33 @@ writes_front {r} {b} {d} {n} w =
 
 -- The report of what was read, where no read failed.
 pub reported : {t : Turn} {r : Report} {b d : List ℕ} {n : ℕ} → InputRead t → (Failed t.got → ⊥) → r ≡ report_of t.trace →
-    Writes r b d n → Reported b d n
+    Writes r b d n → Reported b d (Ok n)
 reported {t} {r} {b} {d} {n} i good e w = record {
   turn = t;
   input = i;
-  writes = λ _. subst (λ (x : Report). Writes x b d n) (e ∙ read_report i) w;
+  writes = λ _. (n, refl, subst (λ (x : Report). Writes x b d n) (e ∙ read_report i) w);
   failed = λ f. absurd (good f);
 }
 
--- An answer of 0 or more at the end gives the report of the bytes that were read, one below 0 nothing.
-pub report_says : {b d : List ℕ} {n : ℕ} (r : Reported b d n) (k : ℕ) →
-    (r.turn.got ≡ pos k → take n d ≡ text_of (input_report r.input.bytes)) × (r.turn.got ≡ negsuc k → (n ≡ 0) × (d ≡ b))
-report_says r k = (
-  λ e. writes_front (r.writes (λ f. rw e at f)),
-  λ e. r.failed (rw e tt),
+-- And where the bytes that the reader had are known, it is the report of all of them.
+pub reported_whole : (old new : Option (List ℕ)) {t : Turn} {r : Report} {b d : List ℕ} {n : ℕ} → InputTaken old new t →
+    (Failed t.got → ⊥) → r ≡ report_of t.trace → Writes r b d n → IfSome old (λ xs. take n d ≡ text_of (input_report xs))
+reported_whole None new i good e w = tt
+reported_whole (Some xs) new i good e w = writes_front w ∙ ap text_of (e ∙ read_report i.input ∙ taken_report (Some xs) new i good)
+
+-- A number at the end gives the report of the bytes that were read, an error nothing.
+pub report_says : {b d : List ℕ} {n : Result ℕ Error} (r : Reported b d n) →
+    ((k : ℕ) → r.turn.got ≡ Ok k → (m : ℕ) × (n ≡ Ok m) × (take m d ≡ text_of (input_report r.input.bytes)))
+    × ((e : Error) → r.turn.got ≡ Err e → (n ≡ Err e) × (d ≡ b))
+report_says r = (
+  λ k e. let w = r.writes (λ f. rw e at f) in (w.0, w.1, writes_front w.2),
+  λ x e. let w = r.failed (rw e tt) in (w.0 ∙ e, w.1),
 )
 
--- Lines of which there are any are the report of the input.
-pub report_lines : (b d : List ℕ) (n : ℕ) → Reported b d n → (n ≡ 0 → ⊥) → (n ≤ length d) × ReportLines (take n d)
-report_lines b d n t h =
-    let good : Failed t.turn.got → ⊥ = λ f. h (t.failed f).0 in
-    ((t.writes good).fits, record { turn = t.turn; input = t.input; good = good; text = writes_front (t.writes good) })
+-- An answer that is a number is the report of the input, in so many bytes.
+pub report_lines : (b d : List ℕ) (n : ℕ) → Reported b d (Ok n) → (n ≤ length d) × ReportLines (take n d)
+report_lines b d n t =
+    let good : Failed t.turn.got → ⊥ = λ f. subst (λ (g : Result ℕ Error). Failed g) (sym (t.failed f).0) f in
+    let w = t.writes good in
+    let e : n ≡ w.0 = cc in
+    rw e (w.2.fits, record { turn = t.turn; input = t.input; good = good; text = writes_front w.2 })

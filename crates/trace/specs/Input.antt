@@ -1,7 +1,9 @@
--- What the trace program makes of its input: docs/RULES.md, "Trace program". That a number is what a read answered and a list what it left
--- in the buffer, no contract of the kit can say; all that follows from the two is said here.
-use Rattle.std.specs.Prelude.{ℕ, ◌-◌, ◌≤◌, ◌<◌, min, ◌≡◌, List, [], ◌++◌, ℤ, pos, negsuc, length, take, drop}
-use Rattle.libc.specs.Io.{Moved}
+-- What the trace program makes of its input: docs/RULES.md, "Trace program". Which bytes a read answers for, its reader says: the bytes that it
+-- has left, where they are known. Standard input's are not; that a number is what a read answered and a list what it left in the buffer, no
+-- contract can say there, and all that follows from the two is said here.
+use Rattle.std.specs.Prelude.{ℕ, ◌-◌, ◌≤◌, ◌<◌, min, ◌≡◌, List, [], ◌++◌, Option, Result, Ok, Err, IfOk, length, take, drop}
+use Rattle.std.specs.Io.KnownBytes.{Consumes, IsAtEnd}
+use Rattle.std.specs.declared.io.Error.{Error}
 use Rattle.text.specs.Text.{text_of, Writes}
 use Rattle.trace_axis.specs.Trace.{LIMIT, started, fed_with, input_report}
 use Rattle.trace_axis.specs.declared.trace.Trace.{Trace}
@@ -11,19 +13,19 @@ use Rattle.trace.specs.declared.Turn.{Turn}
 
 -- The bytes that a read found, by its answer and the buffer as it is after the read: the first so many; none at the end of the input or
 -- where the read failed.
-abbrev pub found : ℤ → List ℕ → List ℕ
-found (pos n) d = take n d
-found (negsuc n) d = []
+abbrev pub found : {E : Type 0} → Result ℕ E → List ℕ → List ℕ
+found (Ok n) d = take n d
+found (Err e) d = []
 
 -- That a read found bytes, by its answer.
-abbrev pub Found : ℤ → Type 0
-Found (pos n) = 0 < n
-Found (negsuc n) = ⊥
+abbrev pub Found : {E : Type 0} → Result ℕ E → Type 0
+Found (Ok n) = 0 < n
+Found (Err e) = ⊥
 
 -- That a read failed, by its answer.
-abbrev pub Failed : ℤ → Type 0
-Failed (pos n) = ⊥
-Failed (negsuc n) = Unit {0}
+abbrev pub Failed : {E : Type 0} → Result ℕ E → Type 0
+Failed (Ok n) = ⊥
+Failed (Err e) = Unit {0}
 
 -- How many bytes a read may take behind those that a trace was fed: as many as are still looked at, and no more than the buffer holds.
 abbrev pub room_for : Trace → List ℕ → ℕ
@@ -33,7 +35,7 @@ room_for x b = min (LIMIT - x.samples) (length b)
 -- was fed all that it found, and nothing else.
 pub record ReadOnce (x : Trace) (b d : List ℕ) (t : Turn) : Type 0 where
   pub some : 0 < room_for x b
-  pub answer : Moved (room_for x b) t.got
+  pub answer : IfOk t.got (λ n. n ≤ room_for x b)
   pub long : length d ≡ length b
   pub behind : drop (room_for x b) d ≡ drop (room_for x b) b
   pub trace : t.trace ≡ fed_with x (found t.got d)
@@ -49,7 +51,7 @@ pub data Reads : List ℕ → Trace → Type 0 where
 -- What ends the reading: a read that found nothing or failed, or no byte left that would be looked at.
 pub data Ends : Trace → Turn → Type 0 where
   last : {x : Trace} {b d : List ℕ} {t : Turn} → ReadOnce x b d t → (Found t.got → ⊥) → Ends x t
-  full : {x : Trace} → LIMIT ≤ x.samples → Ends x (record { trace = x; got = pos 0 })
+  full : {x : Trace} → LIMIT ≤ x.samples → Ends x (record { trace = x; got = Ok 0 })
 
 -- What reading the input promises: its bytes, the trace that was fed them, and what ended the reading.
 pub record InputRead (t : Turn) : Type 0 where
@@ -58,14 +60,22 @@ pub record InputRead (t : Turn) : Type 0 where
   pub reads : Reads bytes fed
   pub ends : Ends fed t
 
+-- What reading the input takes of the bytes that its reader had left, where they are known: those that were read, and where no read failed
+-- and fewer than the limit were read, all of them.
+pub record InputTaken (old new : Option (List ℕ)) (t : Turn) : Type 0 where
+  pub input : InputRead t
+  pub taken : Consumes old new input.bytes
+  pub all : (Failed t.got → ⊥) → length input.bytes < LIMIT → IsAtEnd new
+
 -- ---- the report
 
--- What reporting the input promises, of a buffer: the text of its report and no other byte; where a read failed, 0 and an untouched buffer.
-pub record Reported (b d : List ℕ) (n : ℕ) : Type 0 where
+-- What reporting the input promises, of a buffer: the text of its report and no other byte; where a read failed, the error of that read and
+-- an untouched buffer.
+pub record Reported (b d : List ℕ) (r : Result ℕ Error) : Type 0 where
   pub turn : Turn
   pub input : InputRead turn
-  pub writes : (Failed turn.got → ⊥) → Writes (input_report input.bytes) b d n
-  pub failed : Failed turn.got → (n ≡ 0) × (d ≡ b)
+  pub writes : (Failed turn.got → ⊥) → (n : ℕ) × (r ≡ Ok n) × Writes (input_report input.bytes) b d n
+  pub failed : Failed turn.got → (r ≡ turn.got) × (d ≡ b)
 
 -- Lines that are the report of an input, all of it, of which no read failed.
 pub record ReportLines (l : List ℕ) : Type 0 where
