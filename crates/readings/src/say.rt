@@ -1,140 +1,149 @@
-// Readings as text on standard output. Each function answers whether all of it was written.
-use libc::STDOUT_FILENO;
+// Readings as text on standard output. Each function fails where not all of it could be written.
 use reckon::Reckoned;
 use record::answer::Written;
 use refusal::Refusal;
 use row_calls::answer::Done;
 use row_view::answer::Viewed;
 use speed::Speed;
+use std::io;
 use table::look::view;
 use table::saving::save;
-use text::put::size;
 
-fn text(bytes: &[u8]) -> bool {
-    io::write_all(STDOUT_FILENO, bytes)
+fn text(rt: &impl Print, text: &str) -> io::Result<()> {
+    rt.print(text)
 }
 
 // A whole number, with a leading - below zero.
-fn number(n: i64) -> bool {
-    (n >= 0 || text(b"-")) && io::print_decimal(STDOUT_FILENO, size(n))
+fn number(rt: &impl Print, n: i64) -> io::Result<()> {
+    rt.print(n)
 }
 
 // The end of a line.
-fn end() -> bool {
-    text(b"\n")
+fn end(rt: &impl Print) -> io::Result<()> {
+    text(rt, "\n")
 }
 
 // The name of a reason that these readings meet, or the number of another.
-fn reason(e: Refusal) -> bool {
+fn reason(rt: &impl Print, e: Refusal) -> io::Result<()> {
     match e {
-        Refusal::Value => text(b"VALUE"),
-        Refusal::Room => text(b"ROOM"),
-        Refusal::Occupied => text(b"OCCUPIED"),
-        _ => number(refusal::number(e) as i64),
+        Refusal::Value => text(rt, "VALUE"),
+        Refusal::Room => text(rt, "ROOM"),
+        Refusal::Occupied => text(rt, "OCCUPIED"),
+        _ => number(rt, i64::from(refusal::number(e))),
     }
 }
 
 // A number that was reckoned, or the reason.
-fn reckoned_value(answer: Reckoned) -> bool {
+fn reckoned_value(rt: &impl Print, answer: Reckoned) -> io::Result<()> {
     match answer {
-        Reckoned::Number(n) => number(n),
-        Reckoned::Refused(e) => reason(e),
+        Reckoned::Number(n) => number(rt, n),
+        Reckoned::Refused(e) => reason(rt, e),
     }
 }
 
-pub fn reckoned(label: &[u8], answer: Reckoned) -> bool {
-    text(label) && reckoned_value(answer) && end()
+pub fn reckoned(rt: &impl Print, label: &str, answer: Reckoned) -> io::Result<()> {
+    text(rt, label)?;
+    reckoned_value(rt, answer)?;
+    end(rt)
 }
 
 // A speed with its remainder, or the reason.
-fn speed_value(answer: Speed) -> bool {
+fn speed_value(rt: &impl Print, answer: Speed) -> io::Result<()> {
     match answer {
         Speed::Of(q) => {
-            number(q.number)
-                && text(b" remainder ")
-                && number(q.remainder)
-                && text(b" over")
-                && word(q.divisor)
+            number(rt, q.number)?;
+            text(rt, " remainder ")?;
+            number(rt, q.remainder)?;
+            text(rt, " over")?;
+            word(rt, q.divisor)
         }
-        Speed::Refused(e) => reason(e),
+        Speed::Refused(e) => reason(rt, e),
     }
 }
 
-pub fn speed(label: &[u8], answer: Speed) -> bool {
-    text(label) && speed_value(answer) && end()
+pub fn speed(rt: &impl Print, label: &str, answer: Speed) -> io::Result<()> {
+    text(rt, label)?;
+    speed_value(rt, answer)?;
+    end(rt)
 }
 
 // That a call was done, or the reason.
-fn done_value(answer: Done) -> bool {
+fn done_value(rt: &impl Print, answer: Done) -> io::Result<()> {
     match answer {
-        Done::Yes => text(b"done"),
-        Done::Refused(e) => reason(e),
+        Done::Yes => text(rt, "done"),
+        Done::Refused(e) => reason(rt, e),
     }
 }
 
-pub fn done(label: &[u8], answer: Done) -> bool {
-    text(label) && done_value(answer) && end()
+pub fn done(rt: &impl Print, label: &str, answer: Done) -> io::Result<()> {
+    text(rt, label)?;
+    done_value(rt, answer)?;
+    end(rt)
 }
 
 // The position of a table's axis and whether HOMED and RANGE are set, or the reason.
-fn viewed_value(answer: Viewed) -> bool {
+fn viewed_value(rt: &impl Print, answer: Viewed) -> io::Result<()> {
     match answer {
         Viewed::Shows(v) => {
-            number(v.position) && (!v.homed || text(b" HOMED")) && (!v.range || text(b" RANGE"))
+            number(rt, v.position)?;
+            if v.homed {
+                text(rt, " HOMED")?;
+            }
+            if v.range {
+                text(rt, " RANGE")?;
+            }
+            Ok(())
         }
-        Viewed::Refused(e) => reason(e),
+        Viewed::Refused(e) => reason(rt, e),
     }
 }
 
-pub fn viewed(label: &[u8], table: [u64; 4]) -> bool {
-    text(label) && viewed_value(view(&table, 0)) && end()
+pub fn viewed(rt: &impl Print, label: &str, table: [u64; 4]) -> io::Result<()> {
+    text(rt, label)?;
+    viewed_value(rt, view(&table, 0))?;
+    end(rt)
 }
 
 // A word behind a space.
-fn word(w: u64) -> bool {
-    text(b" ") && io::print_decimal(STDOUT_FILENO, w)
+fn word(rt: &impl Print, w: u64) -> io::Result<()> {
+    print!(rt; " {w}")
 }
 
 // The words of a table.
-pub fn words(label: &[u8], table: [u64; 4]) -> bool {
-    if !text(label) {
-        return false;
+pub fn words(rt: &impl Print, label: &str, table: [u64; 4]) -> io::Result<()> {
+    text(rt, label)?;
+    for w in &table {
+        word(rt, *w)?;
     }
-    let mut i = 0;
-    while i < 4 {
-        if !word(table[i]) {
-            return false;
-        }
-        i += 1;
-    }
-    end()
+    end(rt)
 }
 
 // A byte in hexadecimal behind a space.
-fn byte(b: u8) -> bool {
-    text(b" ") && io::print_hex(STDOUT_FILENO, b as u64, 2)
+fn byte(rt: &impl Print, b: u8) -> io::Result<()> {
+    print!(rt; " {b:02x}")
 }
 
-fn all_bytes(bytes: &[u8]) -> bool {
-    let mut i = 0;
-    while i < bytes.len() {
-        if !byte(bytes[i]) {
-            return false;
-        }
-        i += 1;
+fn all_bytes(rt: &impl Print, bytes: &[u8]) -> io::Result<()> {
+    for b in bytes {
+        byte(rt, *b)?;
     }
-    true
+    Ok(())
 }
 
 // The record of a table's axis in a buffer, or the reason.
-fn saved_value(answer: Written, buf: &[u8]) -> bool {
+fn saved_value(rt: &impl Print, answer: Written, buf: &[u8]) -> io::Result<()> {
     match answer {
-        Written::Bytes(_) => all_bytes(buf),
-        Written::Refused(e) => text(b" ") && reason(e),
+        Written::Bytes(_) => all_bytes(rt, buf),
+        Written::Refused(e) => {
+            text(rt, " ")?;
+            reason(rt, e)
+        }
     }
 }
 
-pub fn saved(label: &[u8], table: [u64; 4], buf: &mut [u8]) -> bool {
+pub fn saved(rt: &impl Print, label: &str, table: [u64; 4], buf: &mut [u8]) -> io::Result<()> {
     let answer = save(&table, 0, buf);
-    text(label) && saved_value(answer, buf) && end()
+    text(rt, label)?;
+    saved_value(rt, answer, buf)?;
+    end(rt)
 }
