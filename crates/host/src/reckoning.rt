@@ -8,16 +8,14 @@ use host_answers::answer::{Answer, of_reckoned};
 use host_answers::speeds::{SpeedAnswer, of_speed};
 
 // The position that a reading of a narrow counter says.
-#[unsafe(no_mangle)]
-pub extern "C" fn ubrenchip_widen(width: u64, position: i64, reading: u64) -> Answer
+pub fn ubrenchip_widen(width: u64, position: i64, reading: u64) -> Answer
     ensures { result ≡ answer_to (widened width position reading) }
 {
     of_reckoned(reckon::widening::widen(width, position, reading))
 }
 
 // The speed of a count difference, in thousandths of a count a second, with what it leaves.
-#[unsafe(no_mangle)]
-pub extern "C" fn ubrenchip_speed_by_count(difference: i64, samples: u64, rate: u64) -> SpeedAnswer
+pub fn ubrenchip_speed_by_count(difference: i64, samples: u64, rate: u64) -> SpeedAnswer
     ensures { result ≡ answer_speed (speed_by_count difference samples rate) }
 {
     of_speed(speed::by_count(difference, samples, rate))

@@ -6,8 +6,7 @@ ghost use Rattle.host_answers.specs.Answer.{answer_test};
 use host_answers::answer::{Answer, of_tested};
 
 // Whether a slice is a saved record, or why it is none.
-#[unsafe(no_mangle)]
-pub extern "C" fn ubrenchip_test_record(slice: &[u8]) -> Answer
+pub fn ubrenchip_test_record(slice: &[u8]) -> Answer
     ensures { result ≡ answer_test (tested_as slice.now) }
 {
     of_tested(record::reader::test(slice))

@@ -5,8 +5,7 @@ ghost use Rattle.host_change.specs.Making.{MakesToC};
 use host_answers::answer::{Answer, of_done};
 
 // An axis set up in an empty row: LENGTH, AXIS, OCCUPIED, VALUE.
-#[unsafe(no_mangle)]
-pub extern "C" fn ubrenchip_setup(
+pub fn ubrenchip_setup(
     table: &mut [u64],
     axis: u64,
     kind: u64,
@@ -20,8 +19,7 @@ pub extern "C" fn ubrenchip_setup(
 }
 
 // Four zero words: LENGTH, AXIS.
-#[unsafe(no_mangle)]
-pub extern "C" fn ubrenchip_erase(table: &mut [u64], axis: u64) -> Answer
+pub fn ubrenchip_erase(table: &mut [u64], axis: u64) -> Answer
     ensures { MakesToC erase_row table.old axis table.new result }
 {
     of_done(table_change::setup::erase(table, axis))

@@ -45,8 +45,7 @@ fn of_sampled(s: Sampled) -> SampledAnswer
 }
 
 // One sample of every axis's lines: LENGTH.
-#[unsafe(no_mangle)]
-pub extern "C" fn ubrenchip_sample(table: &mut [u64], port: u64) -> SampledAnswer
+pub fn ubrenchip_sample(table: &mut [u64], port: u64) -> SampledAnswer
     ensures { SamplesToC table.old port table.new result }
 {
     of_sampled(table_port::sample(table, port))

@@ -6,8 +6,7 @@ ghost use Rattle.host_answers.specs.Answer.{answer_test};
 use host_answers::answer::{Answer, of_tested};
 
 // Whether a slice is a record of layout 1 or of layout 2, or why it is neither.
-#[unsafe(no_mangle)]
-pub extern "C" fn ubrenchip_test_any(slice: &[u8]) -> Answer
+pub fn ubrenchip_test_any(slice: &[u8]) -> Answer
     ensures { result ≡ answer_test (tested_either slice.now) }
 {
     of_tested(record_table::test::test_any(slice))

@@ -7,16 +7,14 @@ use host_answers::speeds::{SpeedAnswer, of_speed};
 use host_answers::view::{ViewAnswer, of_viewed};
 
 // What an axis shows: LENGTH, AXIS, BROKEN, EMPTY.
-#[unsafe(no_mangle)]
-pub extern "C" fn ubrenchip_view(table: &[u64], axis: u64) -> ViewAnswer
+pub fn ubrenchip_view(table: &[u64], axis: u64) -> ViewAnswer
     ensures { result ≡ answer_view (viewed_in table.now axis) }
 {
     of_viewed(table::look::view(table, axis))
 }
 
 // Speed by period, at a rate in samples a second: LENGTH, AXIS, BROKEN, EMPTY, KIND, VALUE, NO PERIOD.
-#[unsafe(no_mangle)]
-pub extern "C" fn ubrenchip_speed_by_period(table: &[u64], axis: u64, rate: u64) -> SpeedAnswer
+pub fn ubrenchip_speed_by_period(table: &[u64], axis: u64, rate: u64) -> SpeedAnswer
     ensures { result ≡ answer_speed (speed_in rate table.now axis) }
 {
     of_speed(table::look::speed(table, axis, rate))

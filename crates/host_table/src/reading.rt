@@ -4,8 +4,7 @@ ghost use Rattle.host_table.specs.Call.{ReadsToC};
 use host_answers::answer::{Answer, of_reckoned};
 
 // The position that a reading gives, stored and answered: LENGTH, AXIS, BROKEN, EMPTY, KIND, VALUE, HALF, RANGE.
-#[unsafe(no_mangle)]
-pub extern "C" fn ubrenchip_reading(table: &mut [u64], axis: u64, reading: u64) -> Answer
+pub fn ubrenchip_reading(table: &mut [u64], axis: u64, reading: u64) -> Answer
     ensures { ReadsToC reading table.old axis table.new result }
 {
     of_reckoned(table::reading::reading(table, axis, reading))

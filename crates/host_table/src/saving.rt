@@ -6,16 +6,14 @@ ghost use Rattle.host_table.specs.Call.{SavesToC};
 use host_answers::answer::{Answer, of_done, of_written};
 
 // The axis's record at the front of a buffer: LENGTH, AXIS, BROKEN, EMPTY, ROOM.
-#[unsafe(no_mangle)]
-pub extern "C" fn ubrenchip_save(table: &[u64], axis: u64, buffer: &mut [u8]) -> Answer
+pub fn ubrenchip_save(table: &[u64], axis: u64, buffer: &mut [u8]) -> Answer
     ensures { SavesToC table.now axis buffer.old buffer.new result }
 {
     of_written(table::saving::save(table, axis, buffer))
 }
 
 // The axis that a record says, in an empty row: LENGTH, AXIS, then the record's own checks in its own order, OCCUPIED.
-#[unsafe(no_mangle)]
-pub extern "C" fn ubrenchip_restore(table: &mut [u64], axis: u64, slice: &[u8]) -> Answer
+pub fn ubrenchip_restore(table: &mut [u64], axis: u64, slice: &[u8]) -> Answer
     ensures { MakesToC (restore_row slice.now) table.old axis table.new result }
 {
     of_done(table::saving::restore(table, axis, slice))
