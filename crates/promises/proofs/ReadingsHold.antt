@@ -17,11 +17,11 @@ use Rattle.axis_settle.specs.Lines.{place_of, line, filtered, move_to, edge_to}
 use Rattle.axis_sample.specs.Step.{primed_by, outcome, step_axis}
 use Rattle.axis_settle.specs.Settle.{at_edge, with_entry, settle}
 use Rattle.row_sample.specs.Sample.{step_by, step_row}
-use Rattle.promises.specs.Readings.{set_up_lem, sampled_by, counted, levelled, Reading, ◌shows◌, readings}
+use Rattle.promises.specs.Readings.{set_up, sampled_by, counted, levelled, Reading, ◌shows◌, readings}
 
 -- Each of the twelve shows what docs/RULES.md states.
 pub readings_hold : map (λ (r : Reading). r.gives) readings ≡ map (λ (r : Reading). r.stated) readings
-unfolding readings ◌shows◌ set_up_lem sampled_by counted levelled position_of in_range mod_z good_reading or_range nearest_to widened rounded divided
+unfolding readings ◌shows◌ set_up sampled_by counted levelled position_of in_range mod_z good_reading or_range nearest_to widened rounded divided
     good_count good_speed speed_by_count status_of place_of level_of line filter_line filtered x1 x2 x4 table_of entry is_e move_to counted_word
     counted_range counted_doubles older paced_direction paced_age step_period paced_period edge_to edge_by off_turn
     primed_by settle at_edge with_entry outcome step_axis step_by

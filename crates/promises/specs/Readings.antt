@@ -15,8 +15,8 @@ use Rattle.axis.specs.declared.row.Row.{Row}
 use Rattle.row_sample.specs.Sample.{step_row}
 
 -- The row that a setup of a kind and a depth makes.
-unfoldable pub set_up_lem : ℕ → ℕ → Row
-set_up_lem kind depth = row_of (fresh (record { kind = kind; depth = depth; width = 0; turn = 0 }))
+unfoldable pub set_up : ℕ → ℕ → Row
+set_up kind depth = row_of (fresh (record { kind = kind; depth = depth; width = 0; turn = 0 }))
 
 -- A row after samples, oldest first.
 unfoldable pub sampled_by : Row → List ℕ → Row
@@ -51,12 +51,12 @@ a shows b = record { gives = a; stated = b }
 -- The twelve readings, in the order of docs/RULES.md.
 unfoldable pub readings : List Reading
 readings =
-    (counted (sampled_by (set_up_lem X4 1) (0 ∷ 1 ∷ 3 ∷ 2 ∷ 0 ∷ [])) shows counts (pos 4) 0)
-    ∷ (counted (sampled_by (set_up_lem X2 1) (0 ∷ 1 ∷ 3 ∷ 2 ∷ 0 ∷ [])) shows counts (pos 2) 0)
-    ∷ (counted (sampled_by (set_up_lem X1 1) (0 ∷ 1 ∷ 3 ∷ 2 ∷ 0 ∷ [])) shows counts (pos 1) 0)
-    ∷ (counted (sampled_by (set_up_lem X4 1) (0 ∷ 3 ∷ 2 ∷ [])) shows counts (pos 1) 1)
-    ∷ (both (levelled (sampled_by (set_up_lem X4 3) (0 ∷ 1 ∷ 1 ∷ 0 ∷ 1 ∷ 1 ∷ 1 ∷ [])))
-    (levelled (sampled_by (set_up_lem X4 3) (0 ∷ 1 ∷ 1 ∷ 0 ∷ 1 ∷ 1 ∷ [])))
+    (counted (sampled_by (set_up X4 1) (0 ∷ 1 ∷ 3 ∷ 2 ∷ 0 ∷ [])) shows counts (pos 4) 0)
+    ∷ (counted (sampled_by (set_up X2 1) (0 ∷ 1 ∷ 3 ∷ 2 ∷ 0 ∷ [])) shows counts (pos 2) 0)
+    ∷ (counted (sampled_by (set_up X1 1) (0 ∷ 1 ∷ 3 ∷ 2 ∷ 0 ∷ [])) shows counts (pos 1) 0)
+    ∷ (counted (sampled_by (set_up X4 1) (0 ∷ 3 ∷ 2 ∷ [])) shows counts (pos 1) 1)
+    ∷ (both (levelled (sampled_by (set_up X4 3) (0 ∷ 1 ∷ 1 ∷ 0 ∷ 1 ∷ 1 ∷ 1 ∷ [])))
+    (levelled (sampled_by (set_up X4 3) (0 ∷ 1 ∷ 1 ∷ 0 ∷ 1 ∷ 1 ∷ [])))
     shows both (level true (pos 1)) (level false (pos 0)))
     ∷ (reckons (widened 8 (pos 250) 3) shows reckons (Number (pos 259)))
     ∷ (reckons (widened 8 (pos 250) 121) shows reckons (Number (pos 377)))

@@ -23,7 +23,7 @@ use Rattle.record_axis.specs.AxisFields.{known_kind, counter_as, sampled_as, cou
 use Rattle.record_axis.proofs.AxisLaws.{on_field_lem}
 use Rattle.record_axis.specs.Limits.{within_limits, saying}
 use Rattle.record.specs.Record.{check, layout_found, layout_refusal, ended_at, on_axis, read_as}
-use Rattle.record.specs.Order.{other_layout_lem, layout_in, nine_stand, kind_in, rest_stands, said_in}
+use Rattle.record.specs.Order.{has_other_layout, layout_in, nine_stand, kind_in, rest_stands, said_in}
 use Rattle.record.specs.Order.{Judged, other_layout, bad_nine, bad_kind, bad_rest, bad_value, all_good}
 
 -- ---- the fields' answers as checks
@@ -87,19 +87,19 @@ layout_is s = refl
 -- The checks one after another, each by itself.
 in_order : (s : List ℕ)
     → read_as s
-    ≡ check (not (other_layout_lem s)) (Layout (layout_in s))
+    ≡ check (not (has_other_layout s)) (Layout (layout_in s))
     (check (nine_stand s) Record
     (check (known_kind (kind_in s)) Value
     (check (rest_stands s) Record
     (check (within_limits (said_in s)) Value
     (Accepted (said_in s))))))
-unfolding read_as axis_at other_layout_lem nine_stand rest_stands said_in
+unfolding read_as axis_at has_other_layout nine_stand rest_stands said_in
 in_order s =
     rw (layout_is, layout_first, on_field_lem, on_axis_lem, both, on_axis_lem, on_field_lem, on_axis_lem, on_kind, counter_is, sampled_is, by_kind, both)
 
 -- A slice with the opening is of no other layout.
-one_layout : (s : List ℕ) → nine_stand s ≡ true → other_layout_lem s ≡ false
-unfolding nine_stand other_layout_lem
+one_layout : (s : List ℕ) → nine_stand s ≡ true → has_other_layout s ≡ false
+unfolding nine_stand has_other_layout
 one_layout s n = go (starts opening s) (stands_at s 5 kind_tag 1) (stands_at s 0 layout_tag 2) n
   where
     go : (o u t : Bool) → (o && u) ≡ true → (t && not o) ≡ false
@@ -109,9 +109,9 @@ one_layout s n = go (starts opening s) (stands_at s 5 kind_tag 1) (stands_at s 0
 
 judged : (s : List ℕ) → Judged s (read_as s)
 judged s =
-    go (test (other_layout_lem s)) (test (nine_stand s)) (test (known_kind (kind_in s))) (test (rest_stands s)) (test (within_limits (said_in s)))
+    go (test (has_other_layout s)) (test (nine_stand s)) (test (known_kind (kind_in s))) (test (rest_stands s)) (test (within_limits (said_in s)))
   where
-    go : Decided (other_layout_lem s) → Decided (nine_stand s) → Decided (known_kind (kind_in s)) → Decided (rest_stands s) →
+    go : Decided (has_other_layout s) → Decided (nine_stand s) → Decided (known_kind (kind_in s)) → Decided (rest_stands s) →
         Decided (within_limits (said_in s)) → Judged s (read_as s)
     go (yes l) _ _ _ _ = other_layout l (in_order s ∙ rw l)
     go (no l) (no n) _ _ _ = bad_nine l n (in_order s ∙ rw (l, n))

@@ -32,7 +32,7 @@ use Rattle.record_axis.specs.AxisFields.{front_bytes, setting_bytes, axis_bytes,
 use Rattle.record_axis.specs.Limits.{within_limits}
 use Rattle.record.specs.Record.{read_as, tested_as, record_of, saved_as, written, SavedInto, Shaped}
 use Rattle.tagged.specs.Field.{field_bytes}
-use Rattle.record.specs.Order.{other_layout_lem, layout_in}
+use Rattle.record.specs.Order.{has_other_layout, layout_in}
 use Rattle.record.specs.Order.{Judged, other_layout, bad_nine, bad_kind, bad_rest, bad_value, all_good}
 use Rattle.tagged.proofs.BytesLaws.{number_back, starts_is}
 use Rattle.record.proofs.OrderLaws.{exactly}
@@ -103,8 +103,8 @@ test_numbers s = go (read_as s)
 -- ---- another layout
 
 -- A slice with the layout field of a number other than 1, whatever follows.
-other_opening : (n : ℕ) (rest : List ℕ) → n < 256 ^ 2 → (n ≡ 1 → ⊥) → other_layout_lem (field_bytes layout_tag 2 n ++ rest) ≡ true
-unfolding other_layout_lem field_bytes bytes_of number_from
+other_opening : (n : ℕ) (rest : List ℕ) → n < 256 ^ 2 → (n ≡ 1 → ⊥) → has_other_layout (field_bytes layout_tag 2 n ++ rest) ≡ true
+unfolding has_other_layout field_bytes bytes_of number_from
 other_opening n rest h other = rw (le-leb 5 (length s) (omega arith)) (go (test (starts opening s)))
   where
     s : List ℕ
@@ -126,10 +126,10 @@ layout_refused n rest h other =
     (e, (test_refuses s (Layout n)).1 e)
 
 -- No other slice is refused by LAYOUT, and the number is the one that stands there.
-pub layout_found_lem : (s : List ℕ) (n : ℕ) → read_as s ≡ Refused (Layout n) → (other_layout_lem s ≡ true) × (n ≡ layout_in s)
+pub layout_found_lem : (s : List ℕ) (n : ℕ) → read_as s ≡ Refused (Layout n) → (has_other_layout s ≡ true) × (n ≡ layout_in s)
 layout_found_lem s n h = go ((exactly s (Refused (Layout n))).0 h)
   where
-    go : Judged s (Refused (Layout n)) → (other_layout_lem s ≡ true) × (n ≡ layout_in s)
+    go : Judged s (Refused (Layout n)) → (has_other_layout s ≡ true) × (n ≡ layout_in s)
     go (other_layout l e) = (l, cc)
     go (bad_nine l m e) = absurd (omega (arith, ap read_number e))
     go (bad_kind m k e) = absurd (omega (arith, ap read_number e))

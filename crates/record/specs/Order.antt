@@ -15,8 +15,8 @@ use Rattle.record_axis.specs.Limits.{saying, within_limits}
 use Rattle.tagged.specs.Field.{stands_at}
 
 -- Whether a slice opens 01 00 02 with two more bytes that are not 00 01.
-unfoldable pub other_layout_lem : List ℕ → Bool
-other_layout_lem s = stands_at s 0 layout_tag 2 && not (starts opening s)
+unfoldable pub has_other_layout : List ℕ → Bool
+has_other_layout s = stands_at s 0 layout_tag 2 && not (starts opening s)
 
 -- The layout number that stands in the two bytes after the first three.
 abbrev pub layout_in : List ℕ → ℕ
@@ -48,8 +48,8 @@ said_in s =
 
 -- The answer to a slice, a line for each check that can be the first to fail and one for none.
 pub data Judged (s : List ℕ) (r : Read) : Type 0 where
-  other_layout : other_layout_lem s ≡ true → r ≡ Refused (Layout (layout_in s)) → Judged s r
-  bad_nine : other_layout_lem s ≡ false → nine_stand s ≡ false → r ≡ Refused Record → Judged s r
+  other_layout : has_other_layout s ≡ true → r ≡ Refused (Layout (layout_in s)) → Judged s r
+  bad_nine : has_other_layout s ≡ false → nine_stand s ≡ false → r ≡ Refused Record → Judged s r
   bad_kind : nine_stand s ≡ true → known_kind (kind_in s) ≡ false → r ≡ Refused Value → Judged s r
   bad_rest : nine_stand s ≡ true → known_kind (kind_in s) ≡ true → rest_stands s ≡ false → r ≡ Refused Record → Judged s r
   bad_value : nine_stand s ≡ true → known_kind (kind_in s) ≡ true → rest_stands s ≡ true → within_limits (said_in s) ≡ false → r ≡ Refused Value →

@@ -111,15 +111,15 @@ module _ (s : List ℕ) (said : Saved) (r : Row) (a : read_as s ≡ Accepted sai
   restore_is = accepted_is ∙ said_sets_up said (accepted_within s said a) r
 
 -- What a restore of a row that is not empty is refused for: the record's own reason, or OCCUPIED.
-abbrev pub held_by_lem : Read → Refusal
-held_by_lem (Accepted s) = OCCUPIED
-held_by_lem (Unread e) = e
+abbrev pub held_by : Read → Refusal
+held_by (Accepted s) = OCCUPIED
+held_by (Unread e) = e
 
 -- It is refused.
-pub restore_full : (s : List ℕ) (r : Row) → (status_of r ≡ Empty → ⊥) → restore_row s r ≡ Kept (held_by_lem (read_as s))
+pub restore_full : (s : List ℕ) (r : Row) → (status_of r ≡ Empty → ⊥) → restore_row s r ≡ Kept (held_by (read_as s))
 restore_full s r full = go (read_as s) refl
   where
-    go : (n : Read) → read_as s ≡ n → restore_row s r ≡ Kept (held_by_lem n)
+    go : (n : Read) → read_as s ≡ n → restore_row s r ≡ Kept (held_by n)
     go (Accepted said) h = accepted_is s said r h ∙ on_occupied _ r full
     go (Unread e) h = restore_refused s e r h
 

@@ -21,12 +21,12 @@ LIMIT = 2 ^ 32 - 1
 -- ---- what the calls promise
 
 -- Four words that hold no axis.
-abbrev pub no_axis_lem : List ℕ
-no_axis_lem = 0 ∷ 0 ∷ 0 ∷ 0 ∷ []
+abbrev pub no_axis : List ℕ
+no_axis = 0 ∷ 0 ∷ 0 ∷ 0 ∷ []
 
 -- A trace before its first byte: one x4 axis, set up at depth 1 with no counts per turn.
 unfoldable pub started : Trace
-started = record { words = table_after no_axis_lem 0 (ruled (setup_row X4 1 0 0) no_axis_lem 0); samples = 0 }
+started = record { words = table_after no_axis 0 (ruled (setup_row X4 1 0 0) no_axis 0); samples = 0 }
 
 -- A table after bytes, oldest first, each of them one port sample.
 unfoldable pub traced_by : List ℕ → List ℕ → List ℕ
