@@ -1,5 +1,6 @@
 // A lent table saved as one record and restored from one.
 #![tactic(auto)]
+
 pub mod row; // row.rt: what a row adds to the record of its table
 pub mod measure; // measure.rt: how long that record is
 pub mod save; // save.rt: the whole-table save
