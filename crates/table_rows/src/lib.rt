@@ -1,5 +1,6 @@
 // The rows of a lent slice: how many there are, one read, one written, and the one that a call names.
 #![tactic(auto)]
+
 ghost use Rattle.std.specs.Prelude.{◌≡◌, ◌+◌, ◌*◌, ◌≤◌, length};
 ghost use Rattle.table_rows.specs.Table.{axes_in, row_at, set_row};
 ghost use Rattle.table_rows.specs.Located.{located};
