@@ -1,2 +1,2 @@
-// How many axes there may be together. Definitions and laws name it `mostAxes`.
+// How many axes there may be together. Definitions and laws name it `most_axes`.
 pub const AXES: usize = 16;

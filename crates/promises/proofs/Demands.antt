@@ -1,8 +1,8 @@
 -- The three demands, in order: the seventeen theorems that the rest of this repository is for. Each is written out in the definitions of
 -- specs/ and proved in a line or two by the laws that it cites. That every call ends and never traps, whatever it is lent, is what the
 -- check of each function says, and no public call asks anything of its caller; what the calls answer and leave is what `Samples`, `Makes`,
--- `ReadingMakes`, `SaveMakes`, `viewedIn` and `speedIn` promise, in the contracts of table_port, table_change and table, and for a speed by
--- count `speedByCount`, in that of speed. A run of calls is told by `tableRun` and `heard` of runs, and RunIs there says that each of its
+-- `ReadingMakes`, `SaveMakes`, `viewed_in` and `speed_in` promise, in the contracts of table_port, table_change and table, and for a speed by
+-- count `speed_by_count`, in that of speed. A run of calls is told by `table_run` and `heard` of runs, and RunIs there says that each of its
 -- calls is what that call's contract promises.
 use Prim.Native.Nat.{ℕ, ◌+◌, ◌*◌, ◌≤◌, ◌<◌, min}
 use mathlib.Core.Path.{◌≡◌, subst}

@@ -68,7 +68,7 @@ ahead_is w b r h =
       is = omega (arith, bal_sub (pos r) (position_of b), bal_position b, middle w h, div-add-mod' b (2 ^ w), mod-lt b (pow_pos w));
     })
 
--- ---- what `nearestTo` gives at a distance ahead
+-- ---- what `nearest_to` gives at a distance ahead
 
 module _ (turn : ℕ) (W p : ℤ) (d : ℕ) where
   pub below_half : 2 * d < turn → W +ℤ pos d ≡ p → nearest_to turn W d ≡ or_range p

@@ -1,5 +1,5 @@
 -- A call of a run is what the contract of that call promises: `Samples` of table_port; `Makes` of table_change; `ReadingMakes`,
--- `SaveMakes`, `viewedIn` and `speedIn` of table.
+-- `SaveMakes`, `viewed_in` and `speed_in` of table.
 use Prim.Native.Nat.{ℕ}
 use native.Mathlib.Omega.{arith}
 use mathlib.Core.Path.{◌≡◌, refl, sym, ap, ◌∙◌}

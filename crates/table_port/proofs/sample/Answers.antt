@@ -15,7 +15,6 @@ use Rattle.table_port.proofs.PortLaws.{length_sampled_to, masks_below, masks_nex
 use Rattle.table_port.proofs.sample.Invariants.{Reached}
 use Rattle.table_port.proofs.sample.Goals as goal
 
--- What holds with k rows done.
 -- One row more.
 next : {t₀ t u : List ℕ} {port n k : ℕ} {m l : Masks} {s : SteppedRow} → Reached t₀ port n t m k → k < n →
     SamplesRow t k port u s → l ≡ noted m k s → Reached t₀ port n u l (k + 1)
@@ -31,7 +30,6 @@ ended {t₀} {port = port} {k = k} v e h =
     let w = sample_all t₀ port k e h in
     record { answer = ap Seen v.masks ∙ w.answer; table = v.table ∙ w.table }
 
--- It stands before `returns`: a sample that does not refuse a table of no words is refused here.
 pub returns : goal.returns
 returns c = ended c.loop-k.invariant (omega arith) (omega arith)
 
@@ -43,11 +41,14 @@ unfolding sampled_to masks_to mask_of
 loop-k-init c = record { within = search rules; table = refl; masks = refl }
 
 pub sample_row-stepped-requires : goal.sample_row-stepped-requires
-sample_row-stepped-requires c = ((omega (arith, axes_most (length c.args.table.now))), (let a = c.args in omega (arith, axes_fit (length a.table.now), ap length c.loop-k.invariant.table ∙ length_sampled_to a.table.now (nibble a.port) c.loop-k.k)))
+sample_row-stepped-requires c =
+    let t = c.args.table.now in
+    let same = ap length c.loop-k.invariant.table ∙ length_sampled_to t (nibble c.args.port) c.loop-k.k in
+    (omega (arith, axes_most (length t)), omega (arith, axes_fit (length t), same))
 
 pub note-masks-requires : goal.note-masks-requires
 note-masks-requires c =
-    ((omega (arith, axes_most (length c.args.table.now))), rw c.loop-k.invariant.masks (masks_below _ _ _))
+    (omega (arith, axes_most (length c.args.table.now)), rw c.loop-k.invariant.masks (masks_below _ _ _))
 
 pub loop-k-preserved : goal.loop-k-preserved
 loop-k-preserved c =

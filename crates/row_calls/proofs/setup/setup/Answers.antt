@@ -14,12 +14,19 @@ returns-then-not-is_empty c = rw (sym c.is_empty.ensures ∙ c.if-not-is_empty.t
 
 pub returns-then-not-is_good : goal.returns-then-not-is_good
 unfolding setup_row
-returns-then-not-is_good c = rw ((sym c.is_empty.ensures ∙ c.if-not-is_empty.false), sym c.is_good.ensures ∙ c.if-not-is_good.true)
+returns-then-not-is_good c =
+    rw (sym c.is_empty.ensures ∙ c.if-not-is_empty.false, sym c.is_good.ensures ∙ c.if-not-is_good.true)
 
 pub pack-requires : goal.pack-requires
-pack-requires c = subst Narrow (sym (c.setup.ensures ∙ ap fresh c.config_of.ensures)) (setup_held (let a = c.args in config_of a.kind a.depth a.width a.turn) (2 ^ 62) (sym c.is_good.ensures ∙ c.if-not-is_good.false)).narrow
+pack-requires c =
+    let a = c.args in
+    let good = sym c.is_good.ensures ∙ c.if-not-is_good.false in
+    let made = c.setup.ensures ∙ ap fresh c.config_of.ensures in
+    subst Narrow (sym made) (setup_held (config_of a.kind a.depth a.width a.turn) (2 ^ 62) good).narrow
 
 pub returns : goal.returns
 unfolding setup_row
 returns c =
-    rw ((sym c.is_empty.ensures ∙ c.if-not-is_empty.false), (sym c.is_good.ensures ∙ c.if-not-is_good.false)) (ap To (c.pack.ensures ∙ ap row_of (c.setup.ensures ∙ ap fresh c.config_of.ensures)))
+    let made = c.setup.ensures ∙ ap fresh c.config_of.ensures in
+    rw (sym c.is_empty.ensures ∙ c.if-not-is_empty.false, sym c.is_good.ensures ∙ c.if-not-is_good.false)
+    (ap To (c.pack.ensures ∙ ap row_of made))
