@@ -22,9 +22,7 @@ use Rattle.row_calls.specs.Calls.{setup_row}
 use Rattle.table_rows.specs.Table.{axes_in, row_at, set_row}
 use Rattle.table_rows.specs.Located.{located}
 use Rattle.table_change.specs.Making.{table_after}
-use Rattle.text.specs.declared.report.Report.{Report}
 use Rattle.trace_axis.specs.Trace.{started, fed_with, stepped_by, input_report}
-use Rattle.trace_axis.specs.declared.trace.Trace.{Trace}
 use Rattle.trace_axis.proofs.TraceLaws.{samples_rule}
 
 -- A trace starts at position 0, kind 4, depth 1 and nothing else, before its first byte.

@@ -117,7 +117,7 @@ impl fmt::Display for Refusal {
                 return write!(out, "the record has another layout, number {found}")
             }
             Refusal::Record => "the bytes are no record, or a misshapen one",
-            Refusal::Occupied => "a row is not empty: erase it first",
+            Refusal::Occupied => "the row is not empty: erase it first",
             Refusal::Unknown { number, .. } => {
                 return write!(out, "reason {number}, which a newer library gave")
             }
@@ -274,7 +274,7 @@ mod tests {
             .map(|number| Refusal::check(number, 40).unwrap_err().to_string())
             .collect();
         assert_eq!(sentences[10], "the record has another layout, number 40");
-        assert_eq!(sentences[12], "a row is not empty: erase it first");
+        assert_eq!(sentences[12], "the row is not empty: erase it first");
         assert_eq!(sentences[13], "reason 14, which a newer library gave");
         sentences.sort();
         sentences.dedup();

@@ -1,4 +1,4 @@
-use mathlib.Core.Path.{sym, ◌∙◌}
+use mathlib.Core.Path.{sym}
 use Rattle.record.proofs.RecordLaws.{accepted_within}
 use Rattle.row_saving.specs.Saving.{restore_row, restored_by}
 use Rattle.row_saving.proofs.restore.Goals as goal

@@ -2,7 +2,6 @@ use mathlib.Core.Path.{sym, ap, ◌∙◌}
 use mathlib.Core.Bool.{false}
 use Prim.Native.Nat.{ℕ}
 use Rattle.integers.proofs.Machine.{back}
-use Rattle.position.specs.Position.{in_range}
 use Rattle.axis.specs.Flags.{with_homed, with_range}
 use Rattle.axis.specs.Row.{row_of}
 use Rattle.row_calls.specs.declared.answer.Changed.TheVariants.{To}

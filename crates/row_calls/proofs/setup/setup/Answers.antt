@@ -1,8 +1,6 @@
 use mathlib.Core.Path.{sym, ap, subst, ◌∙◌}
-use mathlib.Core.Bool.{true}
 use Prim.Native.Nat.{◌^◌}
 use Rattle.axis.specs.Row.{row_of, fresh, Narrow}
-use Rattle.axis_sound.specs.Sound.{is_empty}
 use Rattle.axis_sound.proofs.SoundLaws.{setup_held}
 use Rattle.row_calls.specs.declared.answer.Changed.TheVariants.{To}
 use Rattle.row_calls.specs.Calls.{config_of, setup_row}

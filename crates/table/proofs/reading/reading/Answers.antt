@@ -1,4 +1,4 @@
-use mathlib.Core.Path.{sym, ◌∙◌}
+use mathlib.Core.Path.{sym}
 use Rattle.table_rows.proofs.LocatedLaws.{found_fits}
 use Rattle.table.proofs.CallLaws.{not_read}
 use Rattle.table.proofs.reading.reading.Goals as goal

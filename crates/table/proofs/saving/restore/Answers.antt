@@ -1,4 +1,4 @@
-use mathlib.Core.Path.{sym, ◌∙◌}
+use mathlib.Core.Path.{sym}
 use Rattle.table_rows.proofs.LocatedLaws.{found_fits}
 use Rattle.table_change.proofs.MakingLaws.{not_found}
 use Rattle.table.proofs.saving.restore.Goals as goal

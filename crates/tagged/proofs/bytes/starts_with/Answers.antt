@@ -1,5 +1,4 @@
 use mathlib.Core.Path.{sym}
-use Prim.Native.Nat.{◌-◌}
 use native.Mathlib.Omega.{arith}
 use Rattle.tagged.proofs.BytesLaws.{starts_yes, starts_no, starts_short}
 use Rattle.tagged.proofs.bytes.starts_with.Goals as goal
