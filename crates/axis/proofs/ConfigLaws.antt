@@ -1,11 +1,14 @@
 -- What the test of a configuration says of it.
-use Prim.Native.Nat.{◌^◌}
-use mathlib.Core.Path.{◌≡◌}
-use mathlib.Core.Bool.{true}
+use Prim.Native.Nat.{ℕ, ◌^◌, ◌<◌}
+use native.Mathlib.Omega.{arith}
+use mathlib.Core.Path.{◌≡◌, refl, sym}
+use mathlib.Core.Logic.{◌⊎◌, inl, inr, ⊎_elim}
+use mathlib.Core.Bool.{Bool, true, false, ◌||◌, true≢false}
 use lib.Dec.{eqb, leb, ltb}
 use borrow.Author.Tests.{eqb-true, leb-true, ltb-true, eq-eqb, le-leb, lt-ltb}
-use Rattle.axis.specs.Kind.{COUNTER}
-use Rattle.axis.specs.Config.{sampled_config, counter_config, SampledSetting, CounterSetting}
+use Rattle.axis.specs.Kind.{X1, X2, X4, COUNTER, sampled_kind}
+use Rattle.axis.specs.Config.{sampled_config, counter_config, good_config, SampledSetting, CounterSetting}
+use Rattle.axis.specs.Row.{ConfigFits}
 use Rattle.axis.specs.declared.config.Config.{Config}
 use Rattle.axis.proofs.TestLaws.{both}
 
@@ -50,3 +53,42 @@ module _ (c : Config) where
         depth = eqb-true c.depth 0 h3.1;
         turn = eqb-true c.turn 0 h4.1;
       }
+
+-- The kind of a sampled axis is within its field.
+kind_below : (k : ℕ) → sampled_kind k ≡ true → k < 2 ^ 4
+kind_below k e = go (eqb k X1) (eqb k X2) (eqb k X4) refl refl refl e
+  where
+    go : (p q r : Bool) → eqb k X1 ≡ p → eqb k X2 ≡ q → eqb k X4 ≡ r → p || q || r ≡ true → k < 2 ^ 4
+    go true q r a b c h = omega (arith, eqb-true)
+    go false true r a b c h = omega (arith, eqb-true)
+    go false false true a b c h = omega (arith, eqb-true)
+    go false false false a b c h = absurd (true≢false (sym h))
+
+-- The configuration of a sampled axis is within its fields.
+pub setting_slim : {c : Config} → SampledSetting c → ConfigFits c
+setting_slim {c} s = record { kind = kind_below c.kind s.kind; depth = omega (arith, s.deep); width = omega (arith, s.width) }
+
+-- A configuration is a sampled one or a counter's.
+pub good_cases : (c : Config) → good_config c.kind c.depth c.width c.turn ≡ true → SampledSetting c ⊎ CounterSetting c
+unfolding good_config
+good_cases c e = go (sampled_config c.kind c.depth c.width c.turn) refl e
+  where
+    go : (b : Bool) → sampled_config c.kind c.depth c.width c.turn ≡ b →
+        b || counter_config c.kind c.depth c.width c.turn ≡ true → SampledSetting c ⊎ CounterSetting c
+    go true h e = inl (sampled_setting c h)
+    go false h e = inr (counter_setting c e)
+
+-- A configuration is within its fields.
+pub good_slim : (c : Config) → good_config c.kind c.depth c.width c.turn ≡ true → ConfigFits c
+good_slim c e = ⊎_elim setting_slim slim (good_cases c e)
+  where
+    slim : CounterSetting c → ConfigFits c
+    slim s = record { kind = omega (arith, s.kind); depth = omega (arith, s.depth); width = omega (arith, s.wide) }
+
+-- Four numbers that are a configuration fit its types.
+pub fitting : (k d v n : ℕ) → good_config k d v n ≡ true → (k < 2 ^ 8) × (d < 2 ^ 8) × (v < 2 ^ 8) × (n < 2 ^ 32)
+fitting k d v n e =
+    let c : Config = record { kind = k; depth = d; width = v; turn = n } in
+    let h = good_slim c e in
+    let few : n < 2 ^ 32 = ⊎_elim (λ s. s.turn) (λ s. omega (arith, s.turn)) (good_cases c e) in
+    (omega (arith, h.kind), omega (arith, h.depth), omega (arith, h.width), few)

@@ -1,7 +1,9 @@
 -- What an axis may be set up as: docs/RULES.md, "Calls that name one axis", Setup.
-use Rattle.std.specs.Prelude.{ℕ, ◌^◌, ◌<◌, ◌≤◌, ◌≡◌, Bool, true, ◌&&◌, ◌||◌, eqb, leb, ltb}
+use Rattle.std.specs.Prelude.{ℕ, ◌^◌, ◌<◌, ◌≤◌, ◌≡◌, Bool, true, ◌&&◌, ◌||◌, eqb, leb, ltb, cond, Result, Ok, Err}
 use Rattle.axis.specs.Kind.{COUNTER, sampled_kind, counter_kind}
 use Rattle.axis.specs.declared.config.Config.{Config}
+use Rattle.axis.specs.declared.config.OutsideLimits.{OutsideLimits}
+use Rattle.axis.specs.declared.config.Setting.{Setting}
 
 -- Kinds 1, 2, 4 need depth 1 to 8 and width 0; counts per turn are below 2 ^ 32.
 abbrev pub sampled_config : ℕ → ℕ → ℕ → ℕ → Bool
@@ -16,6 +18,16 @@ counter_config kind depth width turn =
 -- Whether kind, depth, width and counts per turn are a configuration.
 unfoldable pub good_config : ℕ → ℕ → ℕ → ℕ → Bool
 good_config kind depth width turn = sampled_config kind depth width turn || counter_config kind depth width turn
+
+-- The four numbers of a configuration.
+abbrev pub setting_of : Config → Setting
+setting_of c = record { kind = c.kind; depth = c.depth; width = c.width; turn = c.turn }
+
+-- A setting within the limits is the configuration of its four numbers, and any other is refused.
+abbrev pub configured : Setting → Result Config OutsideLimits
+configured s =
+    cond (good_config s.kind s.depth s.width s.turn) (Ok (record { kind = s.kind; depth = s.depth; width = s.width; turn = s.turn }))
+    (Err (record {}))
 
 -- The limits of a sampled axis's configuration.
 pub record SampledSetting (c : Config) : Type 0 where

@@ -2,7 +2,7 @@
 ghost use Rattle.std.specs.Prelude.{◌≡◌};
 ghost use Rattle.axis.specs.Kind.{sampled_kind, counter_kind};
 
-#[derive(Clone, Copy)]
+#[derive(Clone, Copy, Debug, PartialEq, Eq)]
 pub struct Kind {
     pub number: u8,
 }
@@ -20,13 +20,15 @@ impl Kind {
     pub fn is_sampled(number: u64) -> bool
         ensures { result ≡ sampled_kind number }
     {
-        (number == Kind::X1 as u64) | (number == Kind::X2 as u64) | (number == Kind::X4 as u64)
+        [Kind::X1, Kind::X2, Kind::X4]
+            .map(u64::from)
+            .contains(&number)
     }
 
     // Whether a number is that of a narrow counter.
     pub fn is_counter(number: u64) -> bool
         ensures { result ≡ counter_kind number }
     {
-        number == Kind::COUNTER as u64
+        number == u64::from(Kind::COUNTER)
     }
 }

@@ -5,7 +5,7 @@ ghost use Rattle.axis.specs.Row.{blank, fresh, fresh_at};
 use crate::config::Config;
 
 // The four words of a row.
-#[derive(Clone, Copy)]
+#[derive(Clone, Copy, Debug, PartialEq, Eq, Default)]
 pub struct Row {
     pub w0: u64,
     pub w1: u64,
@@ -14,7 +14,7 @@ pub struct Row {
 }
 
 // The flags of an axis.
-#[derive(Clone, Copy)]
+#[derive(Clone, Copy, Debug, PartialEq, Eq, Default)]
 pub struct Flags {
     pub primed: bool,
     pub armed: bool,
@@ -24,7 +24,7 @@ pub struct Flags {
 }
 
 // Direction, age and period.
-#[derive(Clone, Copy)]
+#[derive(Clone, Copy, Debug, PartialEq, Eq, Default)]
 pub struct Pace {
     pub direction: u8,
     pub age: u32,
@@ -32,7 +32,7 @@ pub struct Pace {
 }
 
 // What a row holds. The position stays as word 0 has it, 2^62 more than it is.
-#[derive(Clone, Copy)]
+#[derive(Clone, Copy, Debug, PartialEq, Eq)]
 pub struct Axis {
     pub word: u64,
     pub config: Config,
@@ -48,26 +48,14 @@ impl Axis {
     pub fn setup_at(c: Config, word: u64) -> Axis
         ensures { result ≡ fresh_at c word }
     {
-        let flags = Flags {
-            primed: false,
-            armed: false,
-            homed: false,
-            range: false,
-            index: false,
-        };
-        let pace = Pace {
-            direction: 0,
-            age: 0,
-            period: 0,
-        };
         Axis {
             word,
             config: c,
-            flags,
-            levels: [false, false, false],
-            runs: [0, 0, 0],
+            flags: Flags::default(),
+            levels: [false; 3],
+            runs: [0; 3],
             doubles: 0,
-            pace,
+            pace: Pace::default(),
         }
     }
 
@@ -82,12 +70,6 @@ impl Axis {
     pub fn erased() -> Axis
         ensures { result ≡ blank }
     {
-        let zero = Config {
-            kind: 0,
-            depth: 0,
-            width: 0,
-            turn: 0,
-        };
-        Axis::setup_at(zero, 0)
+        Axis::setup_at(Config::default(), 0)
     }
 }

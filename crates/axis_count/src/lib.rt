@@ -7,11 +7,8 @@ ghost use Rattle.axis_count.specs.Count.{counted_by, counted_doubles};
 use axis_decode::{Move, is_double};
 use position::{FIRST, LAST};
 
-// Where doubles stop.
-const MOST: u16 = 65535;
-
 // Word 0 and RANGE.
-#[derive(Clone, Copy)]
+#[derive(Clone, Copy, Debug, PartialEq, Eq)]
 pub struct Counted {
     pub word: u64,
     pub range: bool,
@@ -23,26 +20,16 @@ pub fn count(m: Move, word: u64, range: bool) -> Counted
     ensures { result ≡ counted_by m word range }
 {
     match m {
-        Move::Still => Counted { word, range },
-        Move::Forward => {
-            if word < LAST {
-                return Counted {
-                    word: word + 1,
-                    range,
-                };
-            }
-            Counted { word, range: true }
-        }
-        Move::Back => {
-            if FIRST < word {
-                return Counted {
-                    word: word - 1,
-                    range,
-                };
-            }
-            Counted { word, range: true }
-        }
-        Move::Double => Counted { word, range },
+        Move::Still | Move::Double => Counted { word, range },
+        Move::Forward if word < LAST => Counted {
+            word: word + 1,
+            range,
+        },
+        Move::Back if FIRST < word => Counted {
+            word: word - 1,
+            range,
+        },
+        Move::Forward | Move::Back => Counted { word, range: true },
     }
 }
 
@@ -52,9 +39,8 @@ pub fn count_doubles(m: Move, doubles: u16) -> u16
     ensures { result ≡ counted_doubles m doubles }
 {
     if is_double(m) {
-        if doubles < MOST {
-            return doubles + 1;
-        }
+        doubles.saturating_add(1)
+    } else {
+        doubles
     }
-    doubles
 }

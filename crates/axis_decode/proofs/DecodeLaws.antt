@@ -43,5 +43,5 @@ told_mark Back = refl
 told_mark Double = refl
 
 -- So what the code tells from a mark that was read is the entry.
-pub told_is : {m n : Move} {z : ℤ} → z ≡ mark m → told (of_z w8 z) ≡ n → n ≡ m
-told_is {m} e h = sym h ∙ ap (λ (z : ℤ). told (of_z w8 z)) e ∙ told_mark m
+pub told_is : {m : Move} {z : ℤ} (n : ℕ) → z ≡ mark m → of_z w8 z ≡ n → told n ≡ m
+told_is {m} n e h = ap told (sym h) ∙ ap (λ (z : ℤ). told (of_z w8 z)) e ∙ told_mark m

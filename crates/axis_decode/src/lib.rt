@@ -7,7 +7,7 @@ ghost use Rattle.axis_decode.specs.Decode.{code, entry, mark, is_e};
 use axis::kind::Kind;
 
 // An entry of a transition table.
-#[derive(Clone, Copy)]
+#[derive(Clone, Copy, Debug, PartialEq, Eq)]
 pub enum Move {
     Still,
     Forward,
@@ -41,7 +41,7 @@ const X1: [[i8; 4]; 4] = [
 fn code_of(a: bool, b: bool) -> usize
     ensures { (result ≡ code a b) × (result < 4) }
 {
-    (fields::bit(a) + 2 * fields::bit(b)) as usize
+    usize::from(a) + 2 * usize::from(b)
 }
 
 // What a kind's table has from an old code to a new one.
@@ -49,13 +49,11 @@ fn mark_at(kind: u8, old: usize, new: usize) -> i8
     requires { (old < 4) × (new < 4) }
     ensures { result ≡ mark (entry kind old new) }
 {
-    if kind == Kind::X4 {
-        return X4[old][new];
+    match kind {
+        Kind::X4 => X4[old][new],
+        Kind::X2 => X2[old][new],
+        _ => X1[old][new],
     }
-    if kind == Kind::X2 {
-        return X2[old][new];
-    }
-    X1[old][new]
 }
 
 // The entry of a kind's table from an old code to a new one.
@@ -63,17 +61,12 @@ fn entry_at(kind: u8, old: usize, new: usize) -> Move
     requires { (old < 4) × (new < 4) }
     ensures { result ≡ entry kind old new }
 {
-    let e = mark_at(kind, old, new);
-    if e == 0 {
-        return Move::Still;
+    match mark_at(kind, old, new) {
+        0 => Move::Still,
+        1 => Move::Forward,
+        2 => Move::Double,
+        _ => Move::Back,
     }
-    if e == 1 {
-        return Move::Forward;
-    }
-    if e == 2 {
-        return Move::Double;
-    }
-    Move::Back
 }
 
 // The entry of A and B, from their old levels to the new ones.
@@ -88,10 +81,5 @@ pub fn move_between(kind: u8, a0: bool, b0: bool, a1: bool, b1: bool) -> Move
 pub fn is_double(m: Move) -> bool
     ensures { result ≡ is_e m }
 {
-    match m {
-        Move::Still => false,
-        Move::Forward => false,
-        Move::Back => false,
-        Move::Double => true,
-    }
+    m == Move::Double
 }

@@ -5,22 +5,22 @@ ghost use Rattle.axis_filter.specs.Filter.{filter_line, filter_lines, Short};
 use crate::{Line, Lines, Raw};
 
 // A line after a sample.
+#[tactic(auto, unfolding(crate::specs::Filter::filter_line))]
 fn filter_line(depth: u8, l: Line, raw: bool) -> Line
     requires { l.run < depth }
     ensures { result ≡ filter_line depth l raw }
 {
-    let level = l.level;
-    if raw == level {
-        return Line { level, run: 0 };
-    }
     let run = l.run + 1;
-    if run == depth {
-        return Line {
-            level: !level,
+    if raw == l.level {
+        Line { run: 0, ..l }
+    } else if run == depth {
+        Line {
+            level: !l.level,
             run: 0,
-        };
+        }
+    } else {
+        Line { run, ..l }
     }
-    Line { level, run }
 }
 
 // The three lines after a sample.

@@ -7,7 +7,7 @@ ghost use Rattle.axis_filter.specs.Lines.{raw_of};
 pub mod filter; // filter.rt: the three lines after a sample
 
 // The raw levels of one sample.
-#[derive(Clone, Copy)]
+#[derive(Clone, Copy, Debug, PartialEq, Eq)]
 pub struct Raw {
     pub a: bool,
     pub b: bool,
@@ -15,14 +15,14 @@ pub struct Raw {
 }
 
 // A filtered line: its level, and how many samples in a row have differed from it.
-#[derive(Clone, Copy)]
+#[derive(Clone, Copy, Debug, PartialEq, Eq)]
 pub struct Line {
     pub level: bool,
     pub run: u8,
 }
 
 // The three filtered lines.
-#[derive(Clone, Copy)]
+#[derive(Clone, Copy, Debug, PartialEq, Eq)]
 pub struct Lines {
     pub a: Line,
     pub b: Line,

@@ -1,31 +1,39 @@
 -- The laws of the index line: docs/RULES.md, "A port sample", Index.
-use Prim.Native.Nat.{ℕ, suc, ◌+◌, ◌*◌, ◌-◌, ◌/◌, ◌%◌, ◌^◌, ◌<◌, ◌≤◌}
+use Prim.Native.Nat.{ℕ, suc, ◌+◌, ◌*◌, ◌-◌, ◌/◌, ◌%◌, ◌^◌, ◌<◌}
 use native.Mathlib.Nat.{mod-lt, mod-eq_of_lt, mod_self, add-mul-mod_self_right, div-add-mod'}
 use native.Mathlib.Omega.{arith}
 use mathlib.Core.Path.{◌≡◌, refl, sym, ap, ◌∙◌}
-use mathlib.Core.Bool.{Bool, true, false, not, beq, true≢false}
-use borrow.Author.Tests.{lt-ltb, le-ltb, ne_eqb, ltb-true, ltb-false}
+use mathlib.Core.Bool.{Bool, true, false, not, ◌||◌, beq, true≢false}
+use borrow.Author.Tests.{lt-ltb, ne_eqb, ltb-true, ltb-false}
 use lib.Dec.{eqb, ltb}
-use lib.IntN.{ℤ, pos, negsuc, nat_abs}
+use lib.IntN.{ℤ, pos, negsuc, nat_abs, ◌-ℤ◌}
+use Rattle.std.specs.Prelude.{Option, None, Some}
+use Rattle.std.specs.Int.{abs_diff}
 use Rattle.integers.specs.Integer.{mod_z}
 use Rattle.integers.proofs.Balance.{Decided, yes, no, test}
 use Rattle.position.specs.Position.{position_of}
 use Rattle.axis_decode.specs.declared.Move.{Move}
 use Rattle.axis_decode.specs.declared.Move.TheVariants.{Still, Forward, Back, Double}
-use Rattle.axis_index.specs.Index.{no_edge, edge_by, off_turn}
+use Rattle.axis_index.specs.Index.{edge_by, is_forward, is_backward, met, off_turn}
+use Rattle.axis_index.specs.declared.Way.{Way}
+use Rattle.axis_index.specs.declared.Way.TheVariants.{Forward as MetForward, Backward as MetBackward}
 
 -- ---- the reference edge
 
 -- An edge is met one way at most.
-pub one_way : (m : Move) (old new : Bool) → (edge_by m old new).forward ≡ true → (edge_by m old new).backward ≡ false
-unfolding edge_by
-one_way Still old new e = refl
-one_way Forward old new e = refl
-one_way Back old new e = absurd (true≢false (sym e))
-one_way Double old new e = refl
+pub one_way : (e : Option Way) → is_forward e ≡ true → is_backward e ≡ false
+one_way None h = refl
+one_way (Some MetForward) h = refl
+one_way (Some MetBackward) h = absurd (true≢false (sym h))
+
+-- It is met one way or the other.
+pub either_way : (e : Option Way) → met e ≡ (is_forward e || is_backward e)
+either_way None = refl
+either_way (Some MetForward) = refl
+either_way (Some MetBackward) = refl
 
 -- Where Z stays there is none.
-pub no_change : (m : Move) (old new : Bool) → beq old new ≡ true → edge_by m old new ≡ no_edge
+pub no_change : (m : Move) (old new : Bool) → beq old new ≡ true → edge_by m old new ≡ None
 unfolding edge_by
 no_change m true false e = absurd (true≢false (sym e))
 no_change m false true e = absurd (true≢false (sym e))
@@ -40,13 +48,13 @@ no_change Double false false e = refl
 
 -- ---- how far a position is from 0, by its word
 
-pub far_below : (w : ℕ) → w < 2 ^ 62 → 2 ^ 62 - w ≡ nat_abs (position_of w)
+pub far : (w : ℕ) → abs_diff w (2 ^ 62) ≡ nat_abs (position_of w)
 unfolding position_of
-far_below w h = rw (lt-ltb w (2 ^ 62) h) (omega arith)
-
-pub far_above : (w : ℕ) → 2 ^ 62 ≤ w → w - 2 ^ 62 ≡ nat_abs (position_of w)
-unfolding position_of
-far_above w h = rw (le-ltb w (2 ^ 62) h)
+far w = go (test (ltb w (2 ^ 62)))
+  where
+    go : Decided (ltb w (2 ^ 62)) → abs_diff w (2 ^ 62) ≡ nat_abs (pos w -ℤ pos (2 ^ 62))
+    go (yes e) = rw e (omega (arith, ltb-true))
+    go (no e) = rw e (omega (arith, ltb-false))
 
 -- ---- the check
 

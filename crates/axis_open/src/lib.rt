@@ -11,30 +11,31 @@ use axis_packing::unpack;
 use axis_sound::{Status, is_counter, is_empty, is_sampled};
 
 // A row opened: what it is, and the axis that it holds.
-#[derive(Clone, Copy)]
+#[derive(Clone, Copy, Debug, PartialEq, Eq)]
 pub struct Opened {
     pub status: Status,
     pub axis: Axis,
 }
 
 // What a row is, by the first test that it passes; a is what it unpacks to.
+#[tactic(auto, unfolding(axis_sound::specs::Sound::status_of))]
 fn classify(r: Row, a: Axis) -> Status
     requires { a ≡ axis_of (low_row r) }
     ensures { result ≡ status_of r }
 {
     if is_empty(r) {
-        return Status::Empty;
+        Status::Empty
+    } else if is_sampled(r, a) {
+        Status::Sampled
+    } else if is_counter(r) {
+        Status::Counter
+    } else {
+        Status::Broken
     }
-    if is_sampled(r, a) {
-        return Status::Sampled;
-    }
-    if is_counter(r) {
-        return Status::Counter;
-    }
-    Status::Broken
 }
 
 // Whether a row that is not sampled is broken.
+#[tactic(auto, using(crate::proofs::OpenLaws::broken_by_lem))]
 pub fn is_broken(r: Row) -> bool
     requires { is_sampled r ≡ false }
     ensures { result ≡ broken_by (status_of r) }
@@ -47,10 +48,8 @@ fn low(r: Row) -> Row
     ensures { result ≡ low_row r }
 {
     Row {
-        w0: r.w0,
-        w1: r.w1,
-        w2: r.w2,
         w3: fields::field(r.w3, 0, 32),
+        ..r
     }
 }
 

@@ -7,22 +7,20 @@ ghost use Rattle.axis_pace.specs.Pace.{older, step_period, paced_by};
 use axis::row::Pace;
 use axis_decode::Move;
 
-// The directions.
-const NONE: u8 = 0;
-
+// The directions; 0 is none.
 const FORWARD: u8 = 1;
 
 const BACK: u8 = 2;
 
 // Where age stops.
-const OLDEST: u32 = 0xffff_ffff;
+const OLDEST: u32 = u32::MAX;
 
 // The age one sample on.
 #[tactic(auto, unfolding(crate::specs::Pace::older))]
 fn older_by_one(age: u32) -> u32
     ensures { result ≡ older age }
 {
-    if age < OLDEST { age + 1 } else { age }
+    age.saturating_add(1)
 }
 
 // The period of a step to one side, at the direction and the age before it.
@@ -30,11 +28,12 @@ fn older_by_one(age: u32) -> u32
 fn step_period(side: u8, direction: u8, age: u32) -> u32
     ensures { result ≡ step_period side direction age }
 {
-    let a = older_by_one(age);
-    if (a < OLDEST) & (direction == side) {
-        return a;
+    let gap = older_by_one(age);
+    if (gap < OLDEST) & (direction == side) {
+        gap
+    } else {
+        0
     }
-    0
 }
 
 // Direction, age and period after an entry.
@@ -44,9 +43,8 @@ pub fn paced(m: Move, p: Pace) -> Pace
 {
     match m {
         Move::Still => Pace {
-            direction: p.direction,
             age: older_by_one(p.age),
-            period: p.period,
+            ..p
         },
         Move::Forward => Pace {
             direction: FORWARD,
@@ -58,10 +56,6 @@ pub fn paced(m: Move, p: Pace) -> Pace
             age: 0,
             period: step_period(BACK, p.direction, p.age),
         },
-        Move::Double => Pace {
-            direction: NONE,
-            age: 0,
-            period: 0,
-        },
+        Move::Double => Pace::default(),
     }
 }

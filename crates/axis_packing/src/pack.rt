@@ -12,9 +12,9 @@ fn config_word(c: Config) -> u64
     ensures { result ≡ c.kind + c.depth * 2 ^ 4 + c.width * 2 ^ 8 }
 {
     fields::put(
-        fields::put(c.kind as u64, 4, c.depth as u64),
+        fields::put(u64::from(c.kind), 4, u64::from(c.depth)),
         8,
-        c.width as u64,
+        u64::from(c.width),
     )
 }
 
@@ -42,7 +42,11 @@ fn runs_word(r: [u8; 3]) -> u64
     requires { (get_or r 0 0 < 2 ^ 3) × (get_or r 1 0 < 2 ^ 3) × (get_or r 2 0 < 2 ^ 3) }
     ensures { result ≡ get_or r 0 0 + get_or r 1 0 * 2 ^ 3 + get_or r 2 0 * 2 ^ 6 }
 {
-    fields::put(fields::put(r[0] as u64, 3, r[1] as u64), 6, r[2] as u64)
+    fields::put(
+        fields::put(u64::from(r[0]), 3, u64::from(r[1])),
+        6,
+        u64::from(r[2]),
+    )
 }
 
 // Word 1, put together from bit 0 up.
@@ -50,21 +54,19 @@ fn word1(a: Axis) -> u64
     requires { Narrow a }
     ensures { result ≡ word1_of a }
 {
-    let levels = a.levels;
-    let runs = a.runs;
     let low14 = config_word(a.config);
     let low19 = fields::put(low14, 14, flags_word(a.flags));
-    let low22 = fields::put(low19, 19, levels_word(levels));
-    let low31 = fields::put(low22, 22, runs_word(runs));
-    let low48 = fields::put(low31, 32, a.doubles as u64);
-    fields::put(low48, 48, a.pace.direction as u64)
+    let low22 = fields::put(low19, 19, levels_word(a.levels));
+    let low31 = fields::put(low22, 22, runs_word(a.runs));
+    let low48 = fields::put(low31, 32, u64::from(a.doubles));
+    fields::put(low48, 48, u64::from(a.pace.direction))
 }
 
 // Word 2: age, then period.
 fn word2(a: Axis) -> u64
     ensures { result ≡ word2_of a }
 {
-    fields::put(a.pace.age as u64, 32, a.pace.period as u64)
+    fields::put(u64::from(a.pace.age), 32, u64::from(a.pace.period))
 }
 
 // The row of an axis whose fields are within their widths.
@@ -76,6 +78,6 @@ pub fn pack(a: Axis) -> Row
         w0: a.word,
         w1: word1(a),
         w2: word2(a),
-        w3: a.config.turn as u64,
+        w3: u64::from(a.config.turn),
     }
 }

@@ -70,18 +70,13 @@ pub fn unpack(r: Row) -> Axis
     requires { r.w3 < 2 ^ 32 }
     ensures { result ≡ axis_of r }
 {
-    let config = config_of(r);
-    let flags = flags_of(r.w1);
-    let levels = levels_of(r.w1);
-    let runs = runs_of(r.w1);
-    let pace = pace_of(r);
     Axis {
         word: r.w0,
-        config,
-        flags,
-        levels,
-        runs,
+        config: config_of(r),
+        flags: flags_of(r.w1),
+        levels: levels_of(r.w1),
+        runs: runs_of(r.w1),
         doubles: fields::field(r.w1, 32, 16) as u16,
-        pace,
+        pace: pace_of(r),
     }
 }

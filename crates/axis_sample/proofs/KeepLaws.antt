@@ -13,7 +13,7 @@ use Rattle.axis_filter.specs.Lines.{A, B, Z, level_of}
 use Rattle.axis_filter.specs.Filter.{Short}
 use Rattle.axis_decode.specs.declared.Move.{Move}
 use Rattle.axis_pace.specs.Pace.{paced_by}
-use Rattle.axis_index.specs.Index.{off_turn}
+use Rattle.axis_index.specs.Index.{is_forward, is_backward, off_turn}
 use Rattle.axis_settle.specs.Lines.{place_of, line, lines_of, filtered, move_to, edge_to}
 use Rattle.axis_sample.specs.Step.{primed_by, advanced, outcome, step_axis}
 use Rattle.axis_settle.specs.Settle.{at_edge, with_entry, settle}
@@ -76,18 +76,18 @@ unfolding settle at_edge with_entry filtered line place_of
 keep_advance x s g =
     let m = move_to x (filtered x s) in
     let e = edge_to x (filtered x s) in
-    let y = at_edge e.backward x in
+    let y = at_edge (is_backward e) x in
     let z = with_entry m (filtered x s) y in
     let d = x.config.depth in
     record {
-      word = edge_word e.forward z (count_keeps m y.word (edge_word e.backward x g.word));
+      word = edge_word (is_forward e) z (count_keeps m y.word (edge_word (is_backward e) x g.word));
       config = g.config;
       run_a = filter_short d (line x A) (level_of s A) g.run_a;
       run_b = filter_short d (line x B) (level_of s B) g.run_b;
       run_z = filter_short d (line x Z) (level_of s Z) g.run_z;
-      apart = edge_apart e.forward z (edge_apart e.backward x g.apart);
+      apart = edge_apart (is_forward e) z (edge_apart (is_backward e) x g.apart);
       pace = pace_kept m x.pace g.pace;
-      index = edge_index e.forward z (edge_index e.backward x g.index);
+      index = edge_index (is_forward e) z (edge_index (is_backward e) x g.index);
       unprimed = λ e. absurd (true≢false e);
       doubles = doubles_below m x.doubles g.doubles;
       levels = refl;

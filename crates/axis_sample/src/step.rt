@@ -8,37 +8,32 @@ use axis::row::{Axis, Flags};
 use axis_decode::{is_double, move_between};
 use axis_filter::filter::filter;
 use axis_filter::{Line, Lines, Raw};
-use axis_index::{edge_between, is_met};
+use axis_index::edge_between;
 use axis_settle::settled;
 
 // The axis after a sample, and its bits of the answer.
-#[derive(Clone, Copy)]
+#[derive(Clone, Copy, Debug, PartialEq, Eq)]
 pub struct Stepped {
     pub axis: Axis,
     pub double: bool,
     pub index: bool,
 }
 
-// An axis that is not primed, after a sample: the levels are taken as they are. The flags are named one by one: with PRIMED set in place,
-// the compiled sample would carry the other four as one number.
+// An axis that is not primed, after a sample: the levels are taken as they are.
 #[tactic(auto, unfolding(crate::specs::Step::outcome, crate::specs::Step::primed_by))]
 fn prime(x: Axis, s: Raw) -> Stepped
     ensures { result ≡ outcome false x s }
 {
-    let was = x.flags;
-    let flags = Flags {
-        primed: true,
-        armed: was.armed,
-        homed: was.homed,
-        range: was.range,
-        index: was.index,
-    };
-    let mut axis = x;
-    axis.flags = flags;
-    axis.levels = [s.a, s.b, s.z];
-    axis.runs = [0, 0, 0];
     Stepped {
-        axis,
+        axis: Axis {
+            flags: Flags {
+                primed: true,
+                ..x.flags
+            },
+            levels: [s.a, s.b, s.z],
+            runs: [0; 3],
+            ..x
+        },
         double: false,
         index: false,
     }
@@ -48,38 +43,38 @@ fn prime(x: Axis, s: Raw) -> Stepped
 fn lines_of(x: Axis) -> Lines
     ensures { result ≡ lines_of x }
 {
-    let levels = x.levels;
-    let runs = x.runs;
-    let a = Line {
-        level: levels[0],
-        run: runs[0],
-    };
-    let b = Line {
-        level: levels[1],
-        run: runs[1],
-    };
-    let z = Line {
-        level: levels[2],
-        run: runs[2],
-    };
-    Lines { a, b, z }
+    let [a, b, z] = x.levels;
+    let [run_a, run_b, run_z] = x.runs;
+    Lines {
+        a: Line {
+            level: a,
+            run: run_a,
+        },
+        b: Line {
+            level: b,
+            run: run_b,
+        },
+        z: Line {
+            level: z,
+            run: run_z,
+        },
+    }
 }
 
 // A primed axis after a sample.
+#[tactic(auto, using(crate::proofs::StepLaws::lines_are), unfolding(crate::specs::Step::outcome, axis_settle::specs::Lines::move_to, axis_settle::specs::Lines::edge_to, axis_settle::specs::Lines::line, axis_settle::specs::Lines::place_of, axis_filter::specs::Lines::three))]
 fn advance(x: Axis, s: Raw) -> Stepped
     requires { Short x.config.depth (lines_of x) }
     ensures { result ≡ outcome true x s }
 {
-    let levels = x.levels;
+    let [a, b, z] = x.levels;
     let n = filter(x.config.depth, lines_of(x), s);
-    let m = move_between(x.config.kind, levels[0], levels[1], n.a.level, n.b.level);
-    let e = edge_between(
-        levels[0], levels[1], levels[2], n.a.level, n.b.level, n.z.level,
-    );
+    let m = move_between(x.config.kind, a, b, n.a.level, n.b.level);
+    let e = edge_between(a, b, z, n.a.level, n.b.level, n.z.level);
     Stepped {
         axis: settled(x, n, m, e),
         double: is_double(m),
-        index: is_met(e),
+        index: e.is_some(),
     }
 }
 
@@ -90,7 +85,8 @@ pub fn step_axis(x: Axis, s: Raw) -> Stepped
     ensures { result ≡ step_axis x s }
 {
     if x.flags.primed {
-        return advance(x, s);
+        advance(x, s)
+    } else {
+        prime(x, s)
     }
-    prime(x, s)
 }

@@ -10,7 +10,9 @@ use Rattle.axis.specs.declared.row.Axis.{Axis}
 use Rattle.axis_filter.specs.Lines.{Wire, A, B, Z}
 use Rattle.axis_decode.specs.Decode.{code, entry, worth}
 use Rattle.axis_index.specs.Index.{edge_by, met}
-use Rattle.axis_index.proofs.IndexLaws.{one_way}
+use Rattle.axis_index.specs.declared.Way.{Way}
+use Rattle.axis_index.specs.declared.Way.TheVariants.{Forward as MetForward, Backward as MetBackward}
+use Rattle.std.specs.Prelude.{Option, None, Some}
 use Rattle.axis_settle.specs.Lines.{place_of, line, move_to, edge_to}
 use Rattle.axis_settle.specs.Settle.{at_edge, with_entry, settle}
 use Rattle.axis_settle.specs.After.{Entered, Moved, Homed}
@@ -35,80 +37,75 @@ module _ (x : Axis) (n : Wire → Line) where
   unfolding settle at_edge with_entry
   entered = record { doubles = refl; pace = refl }
 
-  apart : (edge_to x n).forward ≡ true → (edge_to x n).backward ≡ false
-  unfolding edge_to
-  apart = one_way _ _ _
-
   -- The three ways of an edge: met forward, met backward, and none.
-  settle_ahead : (edge_to x n).forward ≡ true → settle x n ≡ at_edge true (with_entry (move_to x n) n x)
+  settle_ahead : edge_to x n ≡ Some MetForward → settle x n ≡ at_edge true (with_entry (move_to x n) n x)
   unfolding settle
-  settle_ahead q = rw (q, apart q, no_edge)
+  settle_ahead e = rw (e, no_edge)
 
-  settle_astern : (edge_to x n).forward ≡ false → (edge_to x n).backward ≡ true → settle x n ≡ with_entry (move_to x n) n (at_edge true x)
+  settle_astern : edge_to x n ≡ Some MetBackward → settle x n ≡ with_entry (move_to x n) n (at_edge true x)
   unfolding settle
-  settle_astern q r = rw (q, r, no_edge)
+  settle_astern e = rw (e, no_edge)
 
-  settle_off : (edge_to x n).forward ≡ false → (edge_to x n).backward ≡ false → settle x n ≡ with_entry (move_to x n) n x
+  settle_off : edge_to x n ≡ None → settle x n ≡ with_entry (move_to x n) n x
   unfolding settle
-  settle_off q r = rw (q, r, no_edge, no_edge)
+  settle_off e = rw (e, no_edge x, no_edge)
 
   -- A sample that does not home counts, and checks.
   pub counts : (x.flags.armed && met (edge_to x n)) ≡ false → Moved x n
   unfolding at_edge with_entry
-  counts h = go x.flags.armed (edge_to x n).forward (edge_to x n).backward refl refl refl
+  counts h = go x.flags.armed (edge_to x n) refl refl
     where
-      go : (a f b : Bool) → x.flags.armed ≡ a → (edge_to x n).forward ≡ f → (edge_to x n).backward ≡ b → Moved x n
-      go a false false p q r =
-          let s = settle_off q r in
-          record { word = rw s; range = rw s; armed = rw s; homed = rw s; index = rw (s, q, r) (sym (or-false x.flags.index)) }
-      go true true b p q r = absurd (true≢false (sym (rw (q, p)) ∙ h))
-      go true false true p q r = absurd (true≢false (sym (rw (r, q, p)) ∙ h))
-      go false true b p q r =
-          let s = settle_ahead q in
+      go : (a : Bool) (w : Option Way) → x.flags.armed ≡ a → edge_to x n ≡ w → Moved x n
+      go a None p e =
+          let s = settle_off e in
+          record { word = rw s; range = rw s; armed = rw s; homed = rw s; index = rw (s, e) (sym (or-false x.flags.index)) }
+      go true (Some w) p e = absurd (true≢false (sym (rw (e, p)) ∙ h))
+      go false (Some MetForward) p e =
+          let s = settle_ahead e in
           record {
             word = rw (s, p);
             range = rw (s, p, and-true);
             armed = rw (s, p);
             homed = rw (s, p, or-false);
-            index = rw (s, q, apart q, p);
+            index = rw (s, e, p);
           }
-      go false false true p q r =
-          let s = settle_astern q r in
+      go false (Some MetBackward) p e =
+          let s = settle_astern e in
           record {
             word = rw (s, p);
             range = rw (s, p, and-true);
             armed = rw (s, p);
             homed = rw (s, p, or-false);
-            index = rw (s, q, r, p);
+            index = rw (s, e, p);
           }
 
   -- A sample that homes puts the position to 0, after the count or, backward, before it; it sets HOMED, clears ARMED and RANGE, and checks
   -- nothing.
   pub homes_to_0 : (x.flags.armed && met (edge_to x n)) ≡ true → Homed x n
   unfolding at_edge with_entry position_of
-  homes_to_0 h = go x.flags.armed (edge_to x n).forward (edge_to x n).backward refl refl refl
+  homes_to_0 h = go x.flags.armed (edge_to x n) refl refl
     where
-      go : (a f b : Bool) → x.flags.armed ≡ a → (edge_to x n).forward ≡ f → (edge_to x n).backward ≡ b → Homed x n
-      go true true b p q r =
-          let s = settle_ahead q in
+      go : (a : Bool) (w : Option Way) → x.flags.armed ≡ a → edge_to x n ≡ w → Homed x n
+      go true (Some MetForward) p e =
+          let s = settle_ahead e in
           record {
-            position = rw (s, apart q, p);
+            position = rw (s, e, p);
             range = simp (s, p, and-false);
             armed = rw s;
             homed = rw (s, p, or-true);
             index = rw (s, p, or-false);
           }
-      go true false true p q r =
-          let s = settle_astern q r in
+      go true (Some MetBackward) p e =
+          let s = settle_astern e in
           record {
-            position = rw (s, r, p) (from_origin _).0;
+            position = rw (s, e, p) (from_origin _).0;
             range = simp (s, p, and-false) (from_origin _).1;
             armed = rw s;
             homed = rw (s, p, or-true);
             index = rw (s, p, or-false);
           }
-      go true false false p q r = absurd (true≢false (sym h ∙ rw (r, q, p)))
-      go false f b p q r = absurd (true≢false (sym h ∙ rw p))
+      go true None p e = absurd (true≢false (sym h ∙ rw (e, p)))
+      go false w p e = absurd (true≢false (sym h ∙ rw p))
 
   -- A sample that does not home and leaves RANGE clear found it clear, and moves the position by what its entry is worth.
   pub place : (x.flags.armed && met (edge_to x n)) ≡ false → (settle x n).flags.range ≡ false →

@@ -6,7 +6,7 @@ use Rattle.axis_filter.specs.Lines.{Wire}
 use Rattle.axis_count.specs.Count.{counted_word, counted_range, counted_doubles}
 use Rattle.axis_pace.specs.Pace.{paced_by}
 use Rattle.axis_decode.specs.Decode.{worth}
-use Rattle.axis_index.specs.Index.{met, off_turn}
+use Rattle.axis_index.specs.Index.{is_backward, met, off_turn}
 use Rattle.axis_settle.specs.Lines.{move_to, edge_to}
 use Rattle.axis_settle.specs.Settle.{settle}
 use Rattle.axis_filter.specs.declared.Line.{Line}
@@ -26,12 +26,12 @@ pub record Moved (x : Axis) (n : Wire → Line) : Type 0 where
   pub index :
       (settle x n).flags.index ≡ (x.flags.index
       || (met (edge_to x n) && x.flags.homed
-      && off_turn x.config.turn (position_of (cond (edge_to x n).backward x.word (settle x n).word))))
+      && off_turn x.config.turn (position_of (cond (is_backward (edge_to x n)) x.word (settle x n).word))))
 
 -- Where it homes, the position is 0 after the count, or backward 0 before it and what the entry is worth after it; HOMED is set, ARMED and
 -- RANGE are clear, and nothing is checked.
 pub record Homed (x : Axis) (n : Wire → Line) : Type 0 where
-  pub position : position_of (settle x n).word ≡ cond (edge_to x n).backward (worth (move_to x n)) (pos 0)
+  pub position : position_of (settle x n).word ≡ cond (is_backward (edge_to x n)) (worth (move_to x n)) (pos 0)
   pub range : (settle x n).flags.range ≡ false
   pub armed : (settle x n).flags.armed ≡ false
   pub homed : (settle x n).flags.homed ≡ true

@@ -1,5 +1,5 @@
 -- What the filter, the tables and the index line make of an axis and a sample: docs/RULES.md, "A port sample".
-use Rattle.std.specs.Prelude.{ℕ, false, get_or}
+use Rattle.std.specs.Prelude.{ℕ, false, get_or, Option}
 use Rattle.axis.specs.Kind.{X4}
 use Rattle.axis.specs.declared.row.Axis.{Axis}
 use Rattle.axis_filter.specs.Lines.{Wire, A, B, Z, level_of}
@@ -10,7 +10,7 @@ use Rattle.axis_filter.specs.declared.Raw.{Raw}
 use Rattle.axis_decode.specs.Decode.{code, entry}
 use Rattle.axis_decode.specs.declared.Move.{Move}
 use Rattle.axis_index.specs.Index.{edge_by}
-use Rattle.axis_index.specs.declared.Edge.{Edge}
+use Rattle.axis_index.specs.declared.Way.{Way}
 
 -- The line at a place of an axis's levels and runs.
 abbrev pub line_in : Axis → ℕ → Line
@@ -43,5 +43,5 @@ unfoldable pub move_to : Axis → (Wire → Line) → Move
 move_to x n = entry_to x.config.kind x n
 
 -- Its reference edge, which goes by x4's entry, whatever its mode counts.
-unfoldable pub edge_to : Axis → (Wire → Line) → Edge
+unfoldable pub edge_to : Axis → (Wire → Line) → Option Way
 edge_to x n = edge_by (entry_to X4 x n) (line x Z).level (n Z).level

@@ -6,7 +6,7 @@ use Rattle.axis_filter.specs.Lines.{Wire, A, B, Z}
 use Rattle.axis_count.specs.Count.{counted_word, counted_range, counted_doubles}
 use Rattle.axis_pace.specs.Pace.{paced_by}
 use Rattle.axis_decode.specs.declared.Move.{Move}
-use Rattle.axis_index.specs.Index.{off_turn}
+use Rattle.axis_index.specs.Index.{is_forward, is_backward, off_turn}
 use Rattle.axis_settle.specs.Lines.{move_to, edge_to}
 use Rattle.axis_filter.specs.declared.Line.{Line}
 
@@ -47,4 +47,4 @@ with_entry m n x =
 
 -- A primed axis whose lines become n: a reference edge that is met backward acts before the count, and one that is met forward after it.
 unfoldable pub settle : Axis → (Wire → Line) → Axis
-settle x n = let e = edge_to x n in at_edge e.forward (with_entry (move_to x n) n (at_edge e.backward x))
+settle x n = let e = edge_to x n in at_edge (is_forward e) (with_entry (move_to x n) n (at_edge (is_backward e) x))

@@ -2,7 +2,7 @@
 use Prim.Native.Nat.{ℕ, ◌-◌, ◌^◌, ◌<◌}
 use native.Mathlib.Omega.{arith}
 use mathlib.Core.Path.{◌≡◌, refl, sym, ap, ◌∙◌}
-use mathlib.Core.Bool.{Bool, true, false, not, ◌&&◌, ◌||◌, and-true, and-false}
+use mathlib.Core.Bool.{Bool, true, false, not, ◌&&◌, ◌||◌}
 use mathlib.Core.List.{List, [], ◌∷◌, map}
 use lib.Dec.{eqb, leb, ltb}
 use lib.ListN.{get_or, drop}
@@ -144,17 +144,6 @@ sampled_by_lem r a h = go (is_plain r) refl
         ∙ ap (sampled_by r (axis_of r)) (ready_test r p (axis_of r).flags.primed refl)
         ∙ regroup (is_plain r) _ _ _ _ _
     go false e = rw e
-
--- The pace of an axis that rests, and of one that does not.
-pub resting_paced : (p : Pace) → p.direction ≡ 0 → eqb p.period 0 ≡ is_paced p
-resting_paced p z = go (eqb p.period 0) refl
-  where
-    go : (b : Bool) → eqb p.period 0 ≡ b → b ≡ is_paced p
-    go true e = let n = eqb-true p.period 0 e in rw (z, n)
-    go false e = rw (z, e, and-false)
-
-pub moving_paced : (p : Pace) → eqb p.direction 0 ≡ false → not (eqb p.direction 3) && leb p.period (2 ^ 32 - 2) ≡ is_paced p
-moving_paced p n = rw (n, and-true)
 
 -- A pace that passes its test is within its limits.
 sound_pace : (p : Pace) → p.direction < 2 ^ 2 → p.age < 2 ^ 32 → is_paced p ≡ true → SoundPace p

@@ -2,8 +2,8 @@
 use Prim.Native.Nat.{ℕ, ◌^◌, ◌<◌, ◌≤◌}
 use native.Mathlib.Omega.{arith}
 use mathlib.Core.Path.{◌≡◌, refl, sym, ap, subst, ◌∙◌}
-use mathlib.Core.Logic.{◌↔◌, ◌⊎◌, inl, inr, ⊎_elim}
-use mathlib.Core.Bool.{Bool, true, false, cond, not, ◌&&◌, ◌||◌, and-false, true≢false}
+use mathlib.Core.Logic.{◌↔◌, ⊎_elim}
+use mathlib.Core.Bool.{Bool, true, false, cond, not, ◌&&◌, and-false, true≢false}
 use lib.Dec.{eqb, lit<}
 use borrow.Author.Tests.{eqb-true, not-true, ne_eqb, le-leb}
 use Rattle.position.specs.Position.{Word}
@@ -14,14 +14,14 @@ use Rattle.axis.specs.declared.row.Axis.{Axis}
 use Rattle.axis.specs.declared.row.Row.{Row}
 use Rattle.axis_sound.specs.declared.Status.{Status}
 use Rattle.axis_sound.specs.declared.Status.TheVariants.{Empty, Sampled, Counter, Broken}
-use Rattle.axis.specs.Kind.{X1, X2, X4, COUNTER, sampled_kind}
+use Rattle.axis.specs.Kind.{COUNTER, sampled_kind}
 use Rattle.axis.specs.Config.{sampled_config, counter_config, good_config, SampledSetting, CounterSetting}
 use Rattle.axis.specs.Row.{config_in, axis_of, row_of, word1_of, word2_of, empty_row, waiting, fresh_at, blank, ConfigFits, Held, Words}
 use Rattle.axis_sound.specs.Sound.{is_empty, is_plain, is_consistent, is_sampled, is_counter, status_of, passes}
 use Rattle.axis_sound.specs.Sound.{SampledAxis, counter_of, CounterAxis}
 use Rattle.axis.proofs.RowLaws.{same_config, row_held, waiting_held, row_again, back, comes_back}
 use Rattle.axis.proofs.TestLaws.{both, refuted}
-use Rattle.axis.proofs.ConfigLaws.{sampled_setting, sampled_passes, counter_setting}
+use Rattle.axis.proofs.ConfigLaws.{sampled_setting, sampled_passes, counter_setting, setting_slim, good_cases, good_slim}
 use Rattle.axis_sound.proofs.PassLaws.{Plain, plain, plain_from, bare_waits, sampled_axis, sampled_consistent}
 
 -- The parts of the test of a sampled row.
@@ -94,20 +94,6 @@ empty_gives r e =
       w3 = eqb-true r.w3 0 h3.1 i;
     }
 
--- The kind of a sampled axis is within its field.
-kind_below : (k : ℕ) → sampled_kind k ≡ true → k < 2 ^ 4
-kind_below k e = go (eqb k X1) (eqb k X2) (eqb k X4) refl refl refl e
-  where
-    go : (p q r : Bool) → eqb k X1 ≡ p → eqb k X2 ≡ q → eqb k X4 ≡ r → p || q || r ≡ true → k < 2 ^ 4
-    go true q r a b c h = omega (arith, eqb-true)
-    go false true r a b c h = omega (arith, eqb-true)
-    go false false true a b c h = omega (arith, eqb-true)
-    go false false false a b c h = absurd (true≢false (sym h))
-
--- The configuration of a sampled axis is within its fields.
-setting_slim : {c : Config} → SampledSetting c → ConfigFits c
-setting_slim {c} s = record { kind = kind_below c.kind s.kind; depth = omega (arith, s.deep); width = omega (arith, s.width) }
-
 -- A row can hold a sampled axis.
 pub sampled_held : {a : Axis} → SampledAxis a → Held a
 sampled_held {a} s =
@@ -145,22 +131,9 @@ held_plain : (a : Axis) → Held a → Word a.word → a.config.turn < 2 ^ 32 �
 held_plain a h word turn =
     plain_from (row_of a) (record { word = word; low = back a h.narrow 14; high = back a h.narrow 17; turn = turn })
 
--- A configuration is a sampled one or a counter's.
-pub good_cases : (c : Config) → good_config c.kind c.depth c.width c.turn ≡ true → SampledSetting c ⊎ CounterSetting c
-unfolding good_config
-good_cases c e = go (sampled_config c.kind c.depth c.width c.turn) refl e
-  where
-    go : (b : Bool) → sampled_config c.kind c.depth c.width c.turn ≡ b →
-        b || counter_config c.kind c.depth c.width c.turn ≡ true → SampledSetting c ⊎ CounterSetting c
-    go true h e = inl (sampled_setting c h)
-    go false h e = inr (counter_setting c e)
-
 -- A row can hold what setup makes of any configuration.
 pub setup_held : (c : Config) (w : ℕ) → good_config c.kind c.depth c.width c.turn ≡ true → Held (fresh_at c w)
-setup_held c w e = waiting_held (⊎_elim setting_slim slim (good_cases c e)) w false
-  where
-    slim : CounterSetting c → ConfigFits c
-    slim s = record { kind = omega (arith, s.kind); depth = omega (arith, s.depth); width = omega (arith, s.wide) }
+setup_held c w e = waiting_held (good_slim c e) w false
 
 -- An axis that waits, at a sampled configuration and any position, is a sampled axis.
 pub waiting_sampled : {c : Config} {w : ℕ} → Word w → SampledSetting c → (armed : Bool) → SampledAxis (waiting c w armed)

@@ -1,4 +1,5 @@
 -- Where the sums of a sampled row begin: docs/RULES.md, "A port sample", Count.
+use Rattle.std.specs.Prelude.{Ok}
 use mathlib.Core.Path.{◌≡◌, refl, ap, ◌∙◌}
 use mathlib.Core.Bool.{true}
 use mathlib.Core.List.{List, [], ◌∷◌}
@@ -14,12 +15,11 @@ use Rattle.axis.specs.declared.row.Row.{Row}
 use Rattle.axis_sound.specs.Sound.{status_of}
 use Rattle.axis_sound.specs.declared.Status.TheVariants.{Empty}
 use Rattle.record.specs.Record.{read_as}
-use Rattle.record.specs.declared.answer.Read.TheVariants.{Accepted}
 use Rattle.record_axis.specs.declared.saved.Saved.{Saved}
 use Rattle.record_axis.proofs.LimitsLaws.{within_parts}
 use Rattle.record.proofs.RecordLaws.{accepted_within}
 use Rattle.row_calls.specs.Calls.{config_of}
-use Rattle.row_calls.specs.declared.apply.Change.TheVariants.{Setup}
+use Rattle.row_calls.specs.Calls.{Setup}
 use Rattle.row_calls.proofs.SetupLaws.{config_holds}
 use Rattle.history_axis.specs.Tally.{given, clear, place_tally, doubles_tally}
 use Rattle.runs.specs.Op.{changes, restore}
@@ -51,7 +51,7 @@ module _ {r : Row} (words : Words r) (h : List Event) (empty : status_of (row_si
       sums_begin r _ (config_of kind depth width turn) (pos 0) (rw (empty_history words h empty, good)) good refl
 
   -- After a restore that is accepted it begins at the record's position.
-  pub sum_restore : (bytes : List ℕ) (said : Saved) → read_as bytes ≡ Accepted said →
+  pub sum_restore : (bytes : List ℕ) (said : Saved) → read_as bytes ≡ Ok said →
       SumsBegin r (asked (restore bytes) ∷ h) said.position
   unfolding phase_of after_event after_call
   sum_restore bytes said e =

@@ -1,4 +1,5 @@
 -- Demand 2 for a counter row: its position after any events.
+use Rattle.std.specs.Prelude.{Ok}
 use mathlib.Core.Path.{◌≡◌, refl, sym, ◌∙◌, ap}
 use mathlib.Core.Bool.{true}
 use mathlib.Core.List.{List, ◌∷◌}
@@ -7,7 +8,6 @@ use lib.IntN.{ℤ, pos}
 use Rattle.position.specs.Position.{in_range, position_of}
 use Rattle.position.proofs.PositionLaws.{position_word}
 use Rattle.reckon.specs.Widening.{widened}
-use Rattle.reckon.specs.declared.Reckoned.TheVariants.{Number}
 use Rattle.axis.specs.Config.{good_config}
 use Rattle.axis.specs.Row.{axis_of, Words}
 use Rattle.axis_sound.specs.Sound.{status_of}
@@ -18,7 +18,6 @@ use Rattle.row_sample.specs.declared.SteppedRow.{SteppedRow}
 use Rattle.row_sample.proofs.SampleLaws.{counter_stays}
 use Rattle.record.specs.Record.{read_as}
 use Rattle.record_axis.specs.declared.saved.Saved.{Saved}
-use Rattle.record.specs.declared.answer.Read.TheVariants.{Accepted}
 use Rattle.record_axis.proofs.LimitsLaws.{within_parts}
 use Rattle.record.proofs.RecordLaws.{accepted_within}
 use Rattle.row_calls.specs.Change.{changed}
@@ -26,7 +25,7 @@ use Rattle.row_calls.specs.Calls.{left_by, arm_row, acknowledge_row}
 use Rattle.row_counter.specs.Reading.{reading_row, read_row}
 use Rattle.row_counter.specs.Counter.{newest, low_bits, row_read, UnderHalf, polled}
 use Rattle.row_counter.proofs.CounterLaws.{counter_follows, counter_position, counter_answers}
-use Rattle.row_calls.specs.declared.apply.Change.TheVariants.{Setup, Preset, Arm, Acknowledge}
+use Rattle.row_calls.specs.Calls.{Setup, Preset, Arm, Acknowledge}
 use Rattle.runs.specs.Op.{Look, changes, restore, reading, looks, rule_of, row_after}
 use Rattle.runs.specs.Event.{Event, bits, asked, row_next, row_since}
 use Rattle.runs.proofs.CallLaws.{refused_after}
@@ -45,7 +44,7 @@ module _ {r : Row} (words : Words r) (h : List Event) (empty : status_of (row_si
   place_setup kind depth width turn good = rw (empty_history words h empty, good)
 
   -- A restore that is accepted puts the place to the position saved.
-  pub place_restore : (bytes : List ℕ) (s : Saved) → read_as bytes ≡ Accepted s →
+  pub place_restore : (bytes : List ℕ) (s : Saved) → read_as bytes ≡ Ok s →
       (phase_of r (asked (restore bytes) ∷ h)).place ≡ s.position
   unfolding phase_of after_event after_call after_change
   place_restore bytes s e =
@@ -61,7 +60,7 @@ module _ {r : Row} (words : Words r) (h : List Event) (counter : status_of (row_
   place_preset z ok = rw (ok, first)
 
   -- A reading that is accepted puts the place of a counter where it says.
-  pub place_reading : (x : ℕ) (z : ℤ) → widened (axis_of (row_since r h)).config.width (position_of (row_since r h).w0) x ≡ Number z →
+  pub place_reading : (x : ℕ) (z : ℤ) → widened (axis_of (row_since r h)).config.width (position_of (row_since r h).w0) x ≡ Ok z →
       (phase_of r (asked (reading x) ∷ h)).place ≡ z
   unfolding phase_of after_event after_call after_change
   place_reading x z e = rw (first, sym (reading_told words (tells words h) x first) ∙ e)
@@ -116,6 +115,6 @@ module _ (r : Row) (counter : status_of r ≡ Counter) where
 
   -- And a reading there answers the shaft's position.
   pub counter_shaft_answers : {h : List Event} {p : ℤ} {ps : List ℤ} → CounterReads r width h ps → UnderHalf width start (p ∷ ps) →
-      reading_row (low_bits width p) (row_since r h) ≡ Number p
+      reading_row (low_bits width p) (row_since r h) ≡ Ok p
   counter_shaft_answers d (polled p ps ok near g) =
       ap (λ (s : Row). reading_row (low_bits width p) s) (only_readings d g) ∙ counter_answers r counter (polled p ps ok near g)

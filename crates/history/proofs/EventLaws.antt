@@ -1,4 +1,5 @@
 -- One event more: a row and the phase that tells it stay together.
+use Rattle.std.specs.Prelude.{Result, Ok, Err}
 use mathlib.Core.Path.{◌≡◌, refl, sym, ◌∙◌, ap, subst}
 use mathlib.Core.Bool.{Bool, true, false, cond, true≢false}
 use mathlib.Core.List.{List, [], ◌∷◌}
@@ -11,8 +12,6 @@ use Rattle.position.proofs.PositionLaws.{word_position, position_word, position_
 use Rattle.refusal.specs.declared.Refusal.{Refusal}
 use Rattle.refusal.specs.declared.Refusal.TheVariants.{Kind as KIND, Occupied as OCCUPIED}
 use Rattle.reckon.specs.Widening.{widened}
-use Rattle.reckon.specs.declared.Reckoned.{Reckoned}
-use Rattle.reckon.specs.declared.Reckoned.TheVariants.{Number, Refused as Unreckoned}
 use Rattle.reckon.proofs.NearestLaws.{nearest}
 use Rattle.axis.specs.Config.{good_config}
 use Rattle.axis.specs.Row.{axis_of, word1_of, word2_of, row_of, Words}
@@ -25,8 +24,6 @@ use Rattle.axis_sound.proofs.SoundLaws.{status_exactly, counter_gives, packed_ag
 use Rattle.axis_filter.specs.Lines.{raw_of}
 use Rattle.row_sample.specs.Sample.{step_by, step_row}
 use Rattle.record.specs.Record.{read_as}
-use Rattle.record.specs.declared.answer.Read.{Read}
-use Rattle.record.specs.declared.answer.Read.TheVariants.{Accepted, Refused as Unread}
 use Rattle.record_axis.proofs.LimitsLaws.{within_parts}
 use Rattle.record.proofs.RecordLaws.{accepted_within}
 use Rattle.row_calls.specs.Change.{changed}
@@ -35,13 +32,11 @@ use Rattle.row_calls.specs.Calls.{by_status, left_by, on_empty, config_of, chang
 use Rattle.row_calls.specs.Calls.{acknowledge_row}
 use Rattle.row_calls.proofs.SetupLaws.{not_zero}
 use Rattle.row_saving.specs.Saving.{said_row, restored_by, restore_row}
-use Rattle.row_calls.specs.declared.answer.Changed.{Changed}
-use Rattle.row_calls.specs.declared.answer.Changed.TheVariants.{To, Kept}
 use Rattle.history_axis.specs.Acts.{Act, act, sampled, Allowed}
 use Rattle.history_axis.specs.Acts.{preset as placed, arm as armed, acknowledge as acknowledged}
 use Rattle.history_axis.specs.Told.{told_axis}
-use Rattle.row_calls.specs.declared.apply.Change.{Change}
-use Rattle.row_calls.specs.declared.apply.Change.TheVariants.{Setup, Erase, Preset, Arm, Acknowledge}
+use Rattle.row_calls.specs.Calls.{Change}
+use Rattle.row_calls.specs.Calls.{Setup, Erase, Preset, Arm, Acknowledge}
 use Rattle.runs.specs.Op.{Op, changes, restore, reading, looks, rule_of, row_after}
 use Rattle.runs.specs.Event.{Event, bits, asked, row_next, row_since}
 use Rattle.history.specs.Phase.{Phase, begun, acted, moved, by_sort, read_to, in_empty, restored_to}
@@ -50,6 +45,7 @@ use Rattle.history.specs.Lawful.{Beginning, given, erased, made, Lawful}
 use Rattle.history_axis.proofs.ToldLaws.{told_first, act_told}
 use Rattle.history_axis.proofs.StartLaws.{start_sound}
 use Rattle.history.proofs.PhaseLaws.{counter_preset, start_words, told_holds, axis_sampled, axis_counter}
+use Rattle.record_axis.specs.declared.saved.Saved.{Saved}
 
 -- A phase tells a row.
 pub record Tells (r : Row) (p : Phase) (now : Row) : Type 0 where
@@ -140,7 +136,7 @@ module _ {r : Row} (words : Words r) where
 
     -- What goes by a test of the arguments: another row and another phase, or neither.
     by_test : (b : Bool) (q : Phase) (s : Row) (e : Refusal) → (b ≡ true → Tells r q s) →
-        Tells r (cond b q p) (left_by now (cond b (To s) (Kept e)))
+        Tells r (cond b q p) (left_by now (cond b (Ok s) (Err e)))
     by_test true q s e f = f refl
     by_test false q s e f = t
 
@@ -154,10 +150,10 @@ module _ {r : Row} (words : Words r) where
         go (no a) = a ∙ sym (not_zero p.start (λ e. true≢false (sym ((status_exactly Empty now).0 (status_now ∙ e)) ∙ a)))
 
     -- What wants an empty row: another phase there, and in any other neither row nor phase.
-    in_empty_lem : (c : Changed) (q : Phase) → Tells r q (left_by now c) → Tells r (in_empty q p) (left_by now (on_empty c now))
+    in_empty_lem : (c : Result Row Refusal) (q : Phase) → Tells r q (left_by now c) → Tells r (in_empty q p) (left_by now (on_empty c now))
     in_empty_lem c q there = rw vacant_now (go (is_empty p.start))
       where
-        go : (b : Bool) → Tells r (cond b q p) (left_by now (cond b c (Kept OCCUPIED)))
+        go : (b : Bool) → Tells r (cond b q p) (left_by now (cond b c (Err OCCUPIED)))
         go true = there
         go false = t
 
@@ -175,39 +171,39 @@ module _ {r : Row} (words : Words r) where
     presets z =
         subst (λ (q : Phase). Tells r q (left_by now (preset_row z now)))
         (sym (test_sorts (in_range z) (acted p (placed z)) (moved p z) p (status_of p.start)))
-        (by_sort_lem (λ s. left_by now (by_status Kept (place_row z now) (place_row z now) s)) _ _ refl refl
+        (by_sort_lem (λ s. left_by now (by_status Err (place_row z now) (place_row z now) s)) _ _ refl refl
         (λ e. by_test (in_range z) _ _ _ (λ ok. acts (placed z) ok e))
         (λ e. by_test (in_range z) _ _ _ (λ ok. rw (counter_preset (counter_gives now (status_now ∙ e)) z) (moves z ok e))))
 
     -- A call on sampled rows only.
     sampled_only : (a : Act) → Allowed a →
         Tells r (by_sort (acted p a) p (status_of p.start) p)
-        (left_by now (by_status Kept (To (row_of (act (axis_of now) a))) (Kept KIND) (status_of now)))
+        (left_by now (by_status Err (Ok (row_of (act (axis_of now) a))) (Err KIND) (status_of now)))
     sampled_only a ok =
-        by_sort_lem (λ s. left_by now (by_status Kept (To (row_of (act (axis_of now) a))) (Kept KIND) s)) (acted p a) p refl refl (acts a ok)
+        by_sort_lem (λ s. left_by now (by_status Err (Ok (row_of (act (axis_of now) a))) (Err KIND) s)) (acted p a) p refl refl (acts a ok)
         (λ e. t)
 
     readings : (x : ℕ) → Tells r (after_call p (reading x)) (left_by now (read_row x now))
     unfolding after_call read_row reading_row stored_row
     readings x =
-        by_sort_lem (λ s. left_by now (stored_row now (by_status Unreckoned (Unreckoned KIND) (reading_of x (axis_of now)) s))) p _ refl refl
+        by_sort_lem (λ s. left_by now (stored_row now (by_status Err (Err KIND) (reading_of x (axis_of now)) s))) p _ refl refl
         (λ e. t)
         (λ e. rw (reading_told x e) (go e (widened (axis_of p.start).config.width p.place x) refl))
       where
-        go : status_of p.start ≡ Counter → (a : Reckoned) → widened (axis_of p.start).config.width p.place x ≡ a →
+        go : status_of p.start ≡ Counter → (a : Result ℤ Refusal) → widened (axis_of p.start).config.width p.place x ≡ a →
             Tells r (read_to p a) (left_by now (stored_row now a))
-        go e (Number z) f = moves z (nearest (axis_of p.start).config.width p.place z x f).0 e
-        go e (Unreckoned c) f = t
+        go e (Ok z) f = moves z (nearest (axis_of p.start).config.width p.place z x f).0 e
+        go e (Err c) f = t
 
     restores : (bytes : List ℕ) → Tells r (after_call p (restore bytes)) (left_by now (restore_row bytes now))
     unfolding after_call restore_row restored_by
     restores bytes = go (read_as bytes) refl
       where
-        go : (a : Read) → read_as bytes ≡ a → Tells r (restored_to p a) (left_by now (restored_by a now))
-        go (Accepted s) e =
+        go : (a : Result Saved Refusal) → read_as bytes ≡ a → Tells r (restored_to p a) (left_by now (restored_by a now))
+        go (Ok s) e =
             let w = within_parts s (accepted_within bytes s e) in
-            in_empty_lem (To (said_row s)) (begun (said_row s)) (starts (made s.config s.position w.0 w.1))
-        go (Unread f) e = t
+            in_empty_lem (Ok (said_row s)) (begun (said_row s)) (starts (made s.config s.position w.0 w.1))
+        go (Err f) e = t
 
     changed_by : (c : Change) → Tells r (after_change p c) (left_by now (change_row c now))
     unfolding after_change erase_row arm_row acknowledge_row act

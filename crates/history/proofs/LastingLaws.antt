@@ -1,4 +1,5 @@
 -- What lasts: what a refused call, a sample on a row that is not sampled, and events that begin no phase leave as it was.
+use Rattle.std.specs.Prelude.{Result, Ok, Err, ℤ}
 use mathlib.Core.Path.{◌≡◌, refl, sym, ◌∙◌, ap}
 use mathlib.Core.Bool.{Bool, true, false, cond, true≢false, ◌&&◌}
 use mathlib.Core.List.{List, [], ◌∷◌, ◌++◌, append-nil}
@@ -7,8 +8,6 @@ use Rattle.integers.proofs.Balance.{Decided, yes, no, test}
 use Rattle.position.specs.Position.{in_range}
 use Rattle.refusal.specs.declared.Refusal.{Refusal}
 use Rattle.reckon.specs.Widening.{widened}
-use Rattle.reckon.specs.declared.Reckoned.{Reckoned}
-use Rattle.reckon.specs.declared.Reckoned.TheVariants.{Number, Refused as Unreckoned}
 use Rattle.axis.specs.Config.{good_config}
 use Rattle.axis.specs.Kind.{sampled_kind}
 use Rattle.axis.specs.Row.{axis_of, empty_row, Words}
@@ -19,15 +18,13 @@ use Rattle.axis_sound.specs.declared.Status.TheVariants.{Empty, Sampled, Counter
 use Rattle.row_sample.specs.Sample.{step_by, step_row}
 use Rattle.row_sample.proofs.SampleLaws.{broken_stays}
 use Rattle.record.specs.Record.{read_as}
-use Rattle.record.specs.declared.answer.Read.{Read}
-use Rattle.record.specs.declared.answer.Read.TheVariants.{Accepted, Refused as Unread}
 use Rattle.runs.specs.Told.{marks_of}
 use Rattle.row_calls.specs.Calls.{left_by}
 use Rattle.row_calls.proofs.SetupLaws.{not_zero, setup_full, setup_done, setup_makes, erase_makes}
 use Rattle.row_calls.proofs.StatusLaws.{Live, made_live}
 use Rattle.row_saving.specs.Saving.{is_read, restore_row}
 use Rattle.row_saving.proofs.SaveLaws.{restore_done, restore_makes, restore_full}
-use Rattle.row_calls.specs.declared.apply.Change.TheVariants.{Setup, Erase, Preset, Arm, Acknowledge}
+use Rattle.row_calls.specs.Calls.{Setup, Erase, Preset, Arm, Acknowledge}
 use Rattle.runs.specs.Op.{Op, changes, restore, reading, looks, rule_of, row_after, RefusedFor}
 use Rattle.runs.specs.Event.{Event, bits, asked, row_next, row_since}
 use Rattle.runs.proofs.CallLaws.{refused_after}
@@ -36,6 +33,7 @@ use Rattle.history.specs.Phase.{after_call, after_event, phase_of, told_by, told
 use Rattle.history.specs.Lasting.{erases, makes_axis, begins, Lasting, Unerased, unheeded, heeded}
 use Rattle.history.proofs.PhaseLaws.{told_configured}
 use Rattle.history.proofs.RowHistory.{phase_lawful, row_history, status_history}
+use Rattle.record_axis.specs.declared.saved.Saved.{Saved}
 
 -- ---- one event
 
@@ -83,9 +81,9 @@ axis_made r empty (asked (changes Arm)) q = absurd (true≢false (sym q))
 axis_made r empty (asked (changes Acknowledge)) q = absurd (true≢false (sym q))
 axis_made r empty (asked (restore bytes)) q = go (read_as bytes) refl q
   where
-    go : (a : Read) → read_as bytes ≡ a → is_read a ≡ true → Live (left_by r (restore_row bytes r))
-    go (Unread e) h w = absurd (true≢false (sym w))
-    go (Accepted said) h w =
+    go : (a : Result Saved Refusal) → read_as bytes ≡ a → is_read a ≡ true → Live (left_by r (restore_row bytes r))
+    go (Err e) h w = absurd (true≢false (sym w))
+    go (Ok said) h w =
         let made = restore_done bytes said r h empty in
         rw made (made_live _ (sampled_kind said.config.kind) (restore_makes bytes said r h _ made).status)
 axis_made r empty (asked (reading x)) q = absurd (true≢false (sym q))
@@ -104,18 +102,18 @@ module _ (p : Phase) where
   test_start true q f = f
   test_start false q f = refl
 
-  read_start : (a : Reckoned) → (read_to p a).start ≡ p.start
-  read_start (Number z) = refl
-  read_start (Unreckoned e) = refl
+  read_start : (a : Result ℤ Refusal) → (read_to p a).start ≡ p.start
+  read_start (Ok z) = refl
+  read_start (Err e) = refl
 
   empty_start : (a g : Bool) (q : Phase) → a && g ≡ false → (cond a (cond g q p) p).start ≡ p.start
   empty_start true true q f = absurd (true≢false f)
   empty_start true false q f = refl
   empty_start false g q f = refl
 
-  restored_start : (a : Read) → is_empty p.start && is_read a ≡ false → (restored_to p a).start ≡ p.start
-  restored_start (Accepted s) q = empty_start (is_empty p.start) true _ q
-  restored_start (Unread e) q = refl
+  restored_start : (a : Result Saved Refusal) → is_empty p.start && is_read a ≡ false → (restored_to p a).start ≡ p.start
+  restored_start (Ok s) q = empty_start (is_empty p.start) true _ q
+  restored_start (Err e) q = refl
 
   -- An event that begins no phase leaves the phase's start.
   start_next : (e : Event) → begins p.start e ≡ false → (after_event p e).start ≡ p.start

@@ -1,5 +1,6 @@
 -- The reason for one reference edge, on a row: at depth 1, x4, a row that is homed over an edge, forward or backward, is counted from that
 -- edge's angle, and no check at an edge a whole number of turns away sets INDEX.
+use Rattle.std.specs.Prelude.{Result, Ok, Err}
 use mathlib.Core.Path.{◌≡◌, refl, sym, ap, ◌∙◌, subst}
 use mathlib.Core.Logic.{◌↔◌}
 use mathlib.Core.Bool.{Bool, true, false, cond, ◌&&◌, true≢false, and-false, or-true}
@@ -19,11 +20,9 @@ use Rattle.axis_sound.specs.declared.Status.TheVariants.{Sampled}
 use Rattle.axis_filter.specs.Lines.{raw_of}
 use Rattle.axis_filter.specs.declared.Raw.{Raw}
 use Rattle.record.specs.Record.{read_as}
-use Rattle.record.specs.declared.answer.Read.{Read}
-use Rattle.record.specs.declared.answer.Read.TheVariants.{Accepted, Refused as Unread}
 use Rattle.row_sample.specs.Sample.{step_row}
 use Rattle.row_calls.proofs.SetupLaws.{not_zero}
-use Rattle.row_calls.specs.declared.apply.Change.TheVariants.{Setup, Erase, Preset, Arm, Acknowledge}
+use Rattle.row_calls.specs.Calls.{Setup, Erase, Preset, Arm, Acknowledge}
 use Rattle.history_axis.specs.Acts.{sampled, preset, after, Legal}
 use Rattle.history_axis.specs.Levels.{primed_at}
 use Rattle.history_axis.specs.Edge.{forward_at, backward_at, edge_at}
@@ -41,6 +40,8 @@ use Rattle.history.specs.Lasting.{erases}
 use Rattle.history.specs.Reference.{OnShaft, zero_by, zero_after}
 use Rattle.history.proofs.RowHistory.{status_history}
 use Rattle.history.proofs.SampledHistory.{start, legal, axis_row, index_bit_row, next_phase, next_axis}
+use Rattle.refusal.specs.declared.Refusal.{Refusal}
+use Rattle.record_axis.specs.declared.saved.Saved.{Saved}
 
 -- ---- a row that is x4 at depth 1, and one sample more
 
@@ -147,9 +148,9 @@ module _ (z : ℤ → Bool) (p : Phase) (live : status_of p.start ≡ Sampled) {
   call_stays (changes Acknowledge) e = rw live (refl, acknowledges f)
   call_stays (restore bytes) e = go (read_as bytes)
     where
-      go : (v : Read) → Stays (restored_to p v) o
-      go (Accepted s) = rw full (refl, f)
-      go (Unread s) = (refl, f)
+      go : (v : Result Saved Refusal) → Stays (restored_to p v) o
+      go (Ok s) = rw full (refl, f)
+      go (Err s) = (refl, f)
   call_stays (reading x) e = rw live (refl, f)
   call_stays (looks l) e = (refl, f)
 

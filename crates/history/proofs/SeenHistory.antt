@@ -1,4 +1,5 @@
 -- What a user sees of a row after any events is what its history tells: view, speed and save.
+use Rattle.std.specs.Prelude.{Ok}
 use mathlib.Core.Path.{◌≡◌, sym, ap, ◌∙◌}
 use mathlib.Core.Logic.{inl}
 use mathlib.Core.List.{List}
@@ -14,7 +15,6 @@ use Rattle.axis_sound.specs.declared.Status.TheVariants.{Sampled, Counter}
 use Rattle.record.specs.Record.{saved_as, written}
 use Rattle.row_calls.specs.Change.{changed}
 use Rattle.row_view.specs.View.{view_of, view_row}
-use Rattle.row_view.specs.declared.answer.Viewed.TheVariants.{Shows}
 use Rattle.row_view.proofs.ViewLaws.{view_is, view_counter}
 use Rattle.row_speed.specs.Speed.{speed_of, speed_row}
 use Rattle.row_saving.specs.Saving.{saved_of, save_row, saved_in}
@@ -44,9 +44,9 @@ module _ {r : Row} (words : Words r) (h : List Event) (sampled : status_of (row_
       (position_in (start_axis r h) (start_sound (phase_of r h).start first) (acts_since r h) (phase_lawful words h).legal)
 
   -- A view shows the told values, every one of them.
-  pub view_seen : view_row (row_since r h) ≡ Shows (view_told (start_axis r h) (acts_since r h))
+  pub view_seen : view_row (row_since r h) ≡ Ok (view_told (start_axis r h) (acts_since r h))
   unfolding told_axis view_told
-  view_seen = view_is (row_since r h) (inl sampled) ∙ ap (λ (x : Axis). Shows (view_of x)) axis ∙ rw place
+  view_seen = view_is (row_since r h) (inl sampled) ∙ ap (λ (x : Axis). Ok (view_of x)) axis ∙ rw place
 
   -- A speed by period goes by the told pace.
   pub speed_seen : (rate : ℕ) → speed_row rate (row_since r h) ≡ speed_of rate (pace_told (start_axis r h) (acts_since r h))
@@ -68,7 +68,7 @@ module _ {r : Row} (words : Words r) (h : List Event) (sampled : status_of (row_
 
 -- A view of a counter shows its kind, the told place, and all else 0.
 pub view_counter_seen : {r : Row} (words : Words r) (h : List Event) → status_of (row_since r h) ≡ Counter →
-    view_row (row_since r h) ≡ Shows (counter_view (phase_of r h))
+    view_row (row_since r h) ≡ Ok (counter_view (phase_of r h))
 unfolding counter_view
 view_counter_seen words h counter = view_counter _ counter ∙ rw (position_counter words h counter)
 

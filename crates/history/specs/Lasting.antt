@@ -6,7 +6,7 @@ use Rattle.axis.specs.declared.row.Row.{Row}
 use Rattle.axis_sound.specs.Sound.{is_empty}
 use Rattle.record.specs.Record.{read_as}
 use Rattle.row_saving.specs.Saving.{is_read}
-use Rattle.row_calls.specs.declared.apply.Change.TheVariants.{Setup, Erase, Preset, Arm, Acknowledge}
+use Rattle.row_calls.specs.Calls.{Setup, Erase, Preset, Arm, Acknowledge}
 use Rattle.runs.specs.Op.{changes, restore, reading, looks}
 use Rattle.runs.specs.Event.{Event, bits, asked}
 

@@ -1,11 +1,9 @@
 -- What the events of one axis tell, from any four words: docs/RULES.md, "One row, four words", "A port sample"
 -- and "Calls that name one axis". A phase begins with every setup, erase and restore that is accepted, and
 -- within a phase the configuration stays. A row is empty where its phase began with an empty one. Events have the newest first.
-use Rattle.std.specs.Prelude.{ℕ, true, false, cond, List, [], ◌∷◌, ℤ}
+use Rattle.std.specs.Prelude.{ℕ, true, false, cond, List, [], ◌∷◌, ℤ, Result, Ok, Err}
 use Rattle.position.specs.Position.{in_range, position_of}
 use Rattle.reckon.specs.Widening.{widened}
-use Rattle.reckon.specs.declared.Reckoned.{Reckoned}
-use Rattle.reckon.specs.declared.Reckoned.TheVariants.{Number, Refused as Unreckoned}
 use Rattle.axis.specs.Config.{good_config}
 use Rattle.axis.specs.Row.{axis_of, row_of, empty_row, fresh}
 use Rattle.axis_sound.specs.Sound.{is_empty, status_of}
@@ -15,14 +13,12 @@ use Rattle.axis_sound.specs.declared.Status.{Status}
 use Rattle.axis_sound.specs.declared.Status.TheVariants.{Empty, Sampled, Counter, Broken}
 use Rattle.axis_filter.specs.Lines.{raw_of}
 use Rattle.record.specs.Record.{read_as}
-use Rattle.record.specs.declared.answer.Read.{Read}
-use Rattle.record.specs.declared.answer.Read.TheVariants.{Accepted, Refused as Unread}
 use Rattle.row_counter.specs.Reading.{read_axis}
 use Rattle.row_calls.specs.Calls.{config_of}
 use Rattle.row_saving.specs.Saving.{said_row}
 use Rattle.runs.specs.Told.{Marks, Told, marks}
-use Rattle.row_calls.specs.declared.apply.Change.{Change}
-use Rattle.row_calls.specs.declared.apply.Change.TheVariants.{Setup, Erase, Preset, Arm, Acknowledge}
+use Rattle.row_calls.specs.Calls.{Change}
+use Rattle.row_calls.specs.Calls.{Setup, Erase, Preset, Arm, Acknowledge}
 use Rattle.runs.specs.Op.{Op, changes, restore, reading, looks, answer_of}
 use Rattle.runs.specs.Event.{Event, bits, asked}
 use Rattle.history_axis.specs.Acts.{Act, sampled}
@@ -30,6 +26,8 @@ use Rattle.history_axis.specs.Acts.{preset as placed, arm as armed, acknowledge 
 use Rattle.history_axis.specs.Entries.{double_at}
 use Rattle.history_axis.specs.Edge.{edge_at}
 use Rattle.history_axis.specs.Told.{told_axis}
+use Rattle.refusal.specs.declared.Refusal.{Refusal}
+use Rattle.record_axis.specs.declared.saved.Saved.{Saved}
 
 -- A phase: the row that it began with, what has happened to a sampled axis since, newest first, and where a counter is.
 pub record Phase : Type 0 where
@@ -57,18 +55,18 @@ by_sort sampledOne counterOne Empty p = p
 by_sort sampledOne counterOne Broken p = p
 
 -- A reading moves a counter where it is accepted.
-abbrev pub read_to : Phase → Reckoned → Phase
-read_to p (Number z) = moved p z
-read_to p (Unreckoned e) = p
+abbrev pub read_to : Phase → Result ℤ Refusal → Phase
+read_to p (Ok z) = moved p z
+read_to p (Err e) = p
 
 -- What begins a phase in an empty row alone: in any other it is refused, and changes nothing.
 abbrev pub in_empty : Phase → Phase → Phase
 in_empty next p = cond (is_empty p.start) next p
 
 -- A record begins a phase where it is accepted, in an empty row.
-abbrev pub restored_to : Phase → Read → Phase
-restored_to p (Accepted s) = in_empty (begun (said_row s)) p
-restored_to p (Unread e) = p
+abbrev pub restored_to : Phase → Result Saved Refusal → Phase
+restored_to p (Ok s) = in_empty (begun (said_row s)) p
+restored_to p (Err e) = p
 
 -- The phase after a change; one that is refused changes nothing.
 unfoldable pub after_change : Phase → Change → Phase

@@ -6,8 +6,8 @@ use Rattle.axis.specs.Row.{axis_of}
 use Rattle.axis.specs.declared.row.Row.{Row}
 use Rattle.axis_sound.specs.Sound.{status_of}
 use Rattle.axis_sound.specs.declared.Status.TheVariants.{Sampled}
-use Rattle.row_calls.specs.declared.apply.Change.{Change}
-use Rattle.row_calls.specs.declared.apply.Change.TheVariants.{Setup, Erase, Preset, Arm, Acknowledge}
+use Rattle.row_calls.specs.Calls.{Change}
+use Rattle.row_calls.specs.Calls.{Setup, Erase, Preset, Arm, Acknowledge}
 use Rattle.history_axis.specs.Reference.{Zero, set, Follows}
 use Rattle.runs.specs.Op.{Op, changes, restore, reading, looks}
 use Rattle.runs.specs.Event.{Event, row_since}

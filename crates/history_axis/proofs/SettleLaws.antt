@@ -6,8 +6,8 @@ use Rattle.position.specs.Position.{in_range}
 use Rattle.axis.specs.declared.row.Axis.{Axis}
 use Rattle.axis_filter.specs.Lines.{Wire, A, B, Z}
 use Rattle.axis_decode.specs.Decode.{entry, is_e, is_p, is_m}
-use Rattle.axis_index.specs.Index.{edge_by, met, off_turn}
-use Rattle.axis_index.specs.declared.Edge.{Edge}
+use Rattle.axis_index.specs.Index.{edge_by, is_forward, is_backward, met, off_turn}
+use Rattle.axis_index.proofs.IndexLaws.{either_way}
 use Rattle.axis_settle.specs.Lines.{place_of, line, filtered, move_to, edge_to}
 use Rattle.axis_sample.specs.Step.{outcome}
 use Rattle.axis_settle.specs.Settle.{at_edge, with_entry, settle}
@@ -30,14 +30,28 @@ use Rattle.history_axis.proofs.TallyLaws.{word_next, range_next, index_next, dou
 use Rattle.history_axis.proofs.ReferenceLaws.{met_one_way}
 use Rattle.history_axis.proofs.PaceLaws.{pace_next}
 
--- The edge by x4's entry and Z's levels, in words of rise and fall.
-edge_by_lem : (m : Move) (old new : Bool) →
-    edge_by m old new ≡ record { forward = is_p m && (not old && new); backward = is_m m && (old && not new) }
-unfolding edge_by is_p is_m
-edge_by_lem Still old new = refl
-edge_by_lem Forward old new = refl
-edge_by_lem Back old new = refl
-edge_by_lem Double old new = refl
+-- Which way an edge is met by x4's entry and Z's levels, in words of rise and fall.
+forward_by : (m : Move) (old new : Bool) → is_forward (edge_by m old new) ≡ (is_p m && (not old && new))
+unfolding edge_by is_p
+forward_by Still old new = refl
+forward_by Forward true new = refl
+forward_by Forward false true = refl
+forward_by Forward false false = refl
+forward_by Back true true = refl
+forward_by Back true false = refl
+forward_by Back false new = refl
+forward_by Double old new = refl
+
+backward_by : (m : Move) (old new : Bool) → is_backward (edge_by m old new) ≡ (is_m m && (old && not new))
+unfolding edge_by is_m
+backward_by Still old new = refl
+backward_by Forward true new = refl
+backward_by Forward false true = refl
+backward_by Forward false false = refl
+backward_by Back true true = refl
+backward_by Back true false = refl
+backward_by Back false new = refl
+backward_by Double old new = refl
 
 -- ARMED and HOMED at an edge that is met forward, or backward, or at none.
 armed_next : (f b a : Bool) → (not f && (not b && a)) ≡ (a && not (f || b))
@@ -69,19 +83,17 @@ module _
   unfolding move_to line place_of told_axis code_at lines move
   move_is = refl
 
-  edge_is : edge_to (told_axis x h) lines ≡ record { forward = forward_at x s h; backward = backward_at x s h }
-  unfolding edge_to line place_of told_axis code_at lines quarter_at forward_at backward_at
-  edge_is = rw q (edge_by_lem (quarter_at x s h) (level_at x Z h) (level_at x Z (sampled s ∷ h)))
+  forward_is : is_forward (edge_to (told_axis x h) lines) ≡ forward_at x s h
+  unfolding edge_to line place_of told_axis code_at lines quarter_at forward_at
+  forward_is = rw q (forward_by (quarter_at x s h) (level_at x Z h) (level_at x Z (sampled s ∷ h)))
 
-  forward_is : (edge_to (told_axis x h) lines).forward ≡ forward_at x s h
-  forward_is = ap (λ (e : Edge). e.forward) edge_is
-
-  backward_is : (edge_to (told_axis x h) lines).backward ≡ backward_at x s h
-  backward_is = ap (λ (e : Edge). e.backward) edge_is
+  backward_is : is_backward (edge_to (told_axis x h) lines) ≡ backward_at x s h
+  unfolding edge_to line place_of told_axis code_at lines quarter_at backward_at
+  backward_is = rw q (backward_by (quarter_at x s h) (level_at x Z h) (level_at x Z (sampled s ∷ h)))
 
   met_is : met (edge_to (told_axis x h) lines) ≡ edge_at x s h
   unfolding edge_at
-  met_is = ap (λ (e : Edge). met e) edge_is
+  met_is = either_way (edge_to (told_axis x h) lines) ∙ (λ i. forward_is i || backward_is i)
 
   entry_is : entry_at x s h ≡ move ∷ []
   unfolding move

@@ -1,22 +1,18 @@
 -- What the calls answer to C: docs/RULES.md, "Calls that name one axis" and "Reasons for saying no".
-use Rattle.std.specs.Prelude.{ℤ, pos}
+use Rattle.std.specs.Prelude.{ℤ, pos, Result, ℕ, ⊤}
 use Rattle.refusal.specs.Refusal.{number_of, found_in}
 use Rattle.refusal.specs.declared.Refusal.{Refusal}
 use Rattle.fields.specs.Field.{bit_of}
 use Rattle.reckon.specs.Reckoned.{refusal_in, found_by, value_in}
-use Rattle.reckon.specs.declared.Reckoned.{Reckoned}
 use Rattle.speed.specs.Speed.{speed_refusal, speed_found, quotient_in}
-use Rattle.speed.specs.declared.Speed.{Speed}
 use Rattle.record.specs.Answer.{tested_number, tested_found, written_number, written_found, written_bytes}
-use Rattle.record.specs.declared.answer.Tested.{Tested}
-use Rattle.record.specs.declared.answer.Written.{Written}
 use Rattle.row_calls.specs.Answer.{done_number, done_found}
 use Rattle.row_view.specs.View.{view_number, view_found, view_value}
-use Rattle.row_calls.specs.declared.answer.Done.{Done}
-use Rattle.row_view.specs.declared.answer.Viewed.{Viewed}
 use Rattle.host_answers.specs.declared.answer.Answer.{Answer}
 use Rattle.host_answers.specs.declared.speeds.SpeedAnswer.{SpeedAnswer}
 use Rattle.host_answers.specs.declared.view.ViewAnswer.{ViewAnswer}
+use Rattle.speed.specs.declared.Quotient.{Quotient}
+use Rattle.row_view.specs.declared.answer.View.{View}
 
 -- The value of a call that was done.
 abbrev pub answer_value : ℤ → Answer
@@ -27,11 +23,11 @@ abbrev pub answer_refused : Refusal → Answer
 answer_refused e = record { refusal = number_of e; found = found_in e; value = pos 0 }
 
 -- The number, found number and value of a calculation's answer.
-unfoldable pub answer_to : Reckoned → Answer
+unfoldable pub answer_to : Result ℤ Refusal → Answer
 answer_to a = record { refusal = refusal_in a; found = found_by a; value = value_in a }
 
 -- The number and found number of a speed's answer, and its number, remainder and divisor.
-unfoldable pub answer_speed : Speed → SpeedAnswer
+unfoldable pub answer_speed : Result Quotient Refusal → SpeedAnswer
 answer_speed a = record {
   refusal = speed_refusal a;
   found = speed_found a;
@@ -41,19 +37,19 @@ answer_speed a = record {
 }
 
 -- The number and found number of a record test's answer, which has no value.
-unfoldable pub answer_test : Tested → Answer
+unfoldable pub answer_test : Result ⊤ Refusal → Answer
 answer_test a = record { refusal = tested_number a; found = tested_found a; value = pos 0 }
 
 -- The number and found number of a call that says only that it was done.
-unfoldable pub answer_done : Done → Answer
+unfoldable pub answer_done : Result ⊤ Refusal → Answer
 answer_done a = record { refusal = done_number a; found = done_found a; value = pos 0 }
 
 -- The number, found number and number of bytes of a save's answer.
-unfoldable pub answer_written : Written → Answer
+unfoldable pub answer_written : Result ℕ Refusal → Answer
 answer_written a = record { refusal = written_number a; found = written_found a; value = pos (written_bytes a) }
 
 -- The number, found number and values of a view's answer, each flag as 0 or 1.
-unfoldable pub answer_view : Viewed → ViewAnswer
+unfoldable pub answer_view : Result View Refusal → ViewAnswer
 answer_view a = record {
   refusal = view_number a;
   found = view_found a;

@@ -1,17 +1,13 @@
 // What most calls answer to C.
-ghost use Rattle.std.specs.Prelude.{◌≡◌, ◌≤◌};
+ghost use Rattle.std.specs.Prelude.{◌≡◌, ◌<◌, ◌^◌};
 ghost use Rattle.record.specs.Answer.{written_bytes};
-ghost use Rattle.host_answers.specs.Answer.{answer_value, answer_refused, answer_to};
-ghost use Rattle.host_answers.specs.Answer.{answer_test, answer_done, answer_written};
+ghost use Rattle.host_answers.specs.Answer.{answer_value, answer_refused, answer_to, answer_done, answer_written};
 
-use reckon::Reckoned;
-use record::answer::{Tested, Written};
 use refusal::Refusal;
-use row_calls::answer::Done;
 
 // The refusal's number, 0 for done; the layout number that LAYOUT found, else 0; and the value, 0 on a refusal.
 #[repr(C)]
-#[derive(Clone, Copy)]
+#[derive(Clone, Copy, Debug, PartialEq, Eq)]
 pub struct Answer {
     pub refusal: u32,
     pub found: u32,
@@ -30,57 +26,52 @@ fn of_value(v: i64) -> Answer
 }
 
 // The answer of a refusal, which has no value.
-pub fn of_refusal(e: Refusal) -> Answer
-    ensures { result ≡ answer_refused e }
-{
-    Answer {
-        refusal: refusal::number(e),
-        found: refusal::found(e),
-        value: 0,
+impl From<Refusal> for Answer {
+    ghost from_gives = { λ e a. a ≡ answer_refused e };
+
+    fn from(e: Refusal) -> Answer {
+        Answer {
+            refusal: e.number(),
+            found: e.found(),
+            value: 0,
+        }
     }
 }
 
 // The answer of a calculation.
-#[tactic(auto, unfolding(crate::specs::Answer::answer_to))]
-pub fn of_reckoned(r: Reckoned) -> Answer
-    ensures { result ≡ answer_to r }
+impl From<Result<i64, Refusal>> for Answer {
+    ghost from_gives = { λ r a. a ≡ answer_to r };
+
+    #[tactic(auto, unfolding(crate::specs::Answer::answer_to))]
+    fn from(r: Result<i64, Refusal>) -> Answer {
+        match r {
+            Ok(v) => of_value(v),
+            Err(e) => Answer::from(e),
+        }
+    }
+}
+
+// The answer of a call that says only that it was done, a record test too.
+impl From<Result<(), Refusal>> for Answer {
+    ghost from_gives = { λ r a. a ≡ answer_done r };
+
+    #[tactic(auto, unfolding(crate::specs::Answer::answer_done))]
+    fn from(r: Result<(), Refusal>) -> Answer {
+        match r {
+            Ok(()) => of_value(0),
+            Err(e) => Answer::from(e),
+        }
+    }
+}
+
+// The answer of a save: the number of bytes, which fits the value. No `From`, since it asks that of its argument.
+#[tactic(auto, unfolding(crate::specs::Answer::answer_written))]
+pub fn of_written(r: Result<usize, Refusal>) -> Answer
+    requires { written_bytes r < 2 ^ 63 }
+    ensures { result ≡ answer_written r }
 {
     match r {
-        Reckoned::Number(v) => of_value(v),
-        Reckoned::Refused(e) => of_refusal(e),
-    }
-}
-
-// The answer of a call that says only that it was done.
-#[tactic(auto, unfolding(crate::specs::Answer::answer_done))]
-pub fn of_done(d: Done) -> Answer
-    ensures { result ≡ answer_done d }
-{
-    match d {
-        Done::Yes => of_value(0),
-        Done::Refused(e) => of_refusal(e),
-    }
-}
-
-// The answer of a record test.
-#[tactic(auto, unfolding(crate::specs::Answer::answer_test))]
-pub fn of_tested(t: Tested) -> Answer
-    ensures { result ≡ answer_test t }
-{
-    match t {
-        Tested::Accepted => of_value(0),
-        Tested::Refused(e) => of_refusal(e),
-    }
-}
-
-// The answer of a save: the number of bytes, of which a record has at most 34.
-#[tactic(auto, unfolding(crate::specs::Answer::answer_written))]
-pub fn of_written(w: Written) -> Answer
-    requires { written_bytes w ≤ 34 }
-    ensures { result ≡ answer_written w }
-{
-    match w {
-        Written::Bytes(n) => of_value(n as i64),
-        Written::Refused(e) => of_refusal(e),
+        Ok(n) => of_value(n as i64),
+        Err(e) => Answer::from(e),
     }
 }

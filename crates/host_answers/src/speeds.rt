@@ -2,13 +2,14 @@
 ghost use Rattle.std.specs.Prelude.{◌≡◌};
 ghost use Rattle.host_answers.specs.Answer.{answer_speed};
 
-use crate::answer::of_refusal;
-use speed::Speed;
+use crate::answer::Answer;
+use refusal::Refusal;
+use speed::Quotient;
 
 // A speed's answer: the refusal's number; 0, since no speed reads a record; and number, remainder and divisor, all 0 on a
 // refusal.
 #[repr(C)]
-#[derive(Clone, Copy)]
+#[derive(Clone, Copy, Debug, Default, PartialEq, Eq)]
 pub struct SpeedAnswer {
     pub refusal: u32,
     pub found: u32,
@@ -18,26 +19,26 @@ pub struct SpeedAnswer {
 }
 
 // The answer of a speed.
-#[tactic(auto, unfolding(crate::specs::Answer::answer_speed))]
-pub fn of_speed(s: Speed) -> SpeedAnswer
-    ensures { result ≡ answer_speed s }
-{
-    match s {
-        Speed::Of(q) => SpeedAnswer {
-            refusal: 0,
-            found: 0,
-            number: q.number,
-            remainder: q.remainder,
-            divisor: q.divisor,
-        },
-        Speed::Refused(e) => {
-            let why = of_refusal(e);
-            SpeedAnswer {
-                refusal: why.refusal,
-                found: why.found,
-                number: 0,
-                remainder: 0,
-                divisor: 0,
+impl From<Result<Quotient, Refusal>> for SpeedAnswer {
+    ghost from_gives = { λ r a. a ≡ answer_speed r };
+
+    #[tactic(auto, unfolding(crate::specs::Answer::answer_speed))]
+    fn from(r: Result<Quotient, Refusal>) -> SpeedAnswer {
+        match r {
+            Ok(q) => SpeedAnswer {
+                refusal: 0,
+                found: 0,
+                number: q.number,
+                remainder: q.remainder,
+                divisor: q.divisor,
+            },
+            Err(e) => {
+                let Answer { refusal, found, .. } = Answer::from(e);
+                SpeedAnswer {
+                    refusal,
+                    found,
+                    ..SpeedAnswer::default()
+                }
             }
         }
     }

@@ -2,12 +2,13 @@
 ghost use Rattle.std.specs.Prelude.{◌≡◌};
 ghost use Rattle.host_answers.specs.Answer.{answer_view};
 
-use crate::answer::of_refusal;
-use row_view::answer::Viewed;
+use crate::answer::Answer;
+use refusal::Refusal;
+use row_view::answer::View;
 
 // A view's answer: the refusal's number, the layout number found (0), and what the axis shows, each flag 0 or 1.
 #[repr(C)]
-#[derive(Clone, Copy)]
+#[derive(Clone, Copy, Debug, Default, PartialEq, Eq)]
 pub struct ViewAnswer {
     pub refusal: u32,
     pub found: u32,
@@ -23,38 +24,32 @@ pub struct ViewAnswer {
 }
 
 // The answer of a view.
-#[tactic(auto, unfolding(crate::specs::Answer::answer_view))]
-pub fn of_viewed(v: Viewed) -> ViewAnswer
-    ensures { result ≡ answer_view v }
-{
-    match v {
-        Viewed::Shows(s) => ViewAnswer {
-            refusal: 0,
-            found: 0,
-            position: s.position,
-            kind: s.kind as u32,
-            doubles: s.doubles as u32,
-            primed: s.primed as u32,
-            armed: s.armed as u32,
-            homed: s.homed as u32,
-            range: s.range as u32,
-            index: s.index as u32,
-            unused: 0,
-        },
-        Viewed::Refused(e) => {
-            let why = of_refusal(e);
-            ViewAnswer {
-                refusal: why.refusal,
-                found: why.found,
-                position: 0,
-                kind: 0,
-                doubles: 0,
-                primed: 0,
-                armed: 0,
-                homed: 0,
-                range: 0,
-                index: 0,
+impl From<Result<View, Refusal>> for ViewAnswer {
+    ghost from_gives = { λ r a. a ≡ answer_view r };
+
+    #[tactic(auto, unfolding(crate::specs::Answer::answer_view))]
+    fn from(r: Result<View, Refusal>) -> ViewAnswer {
+        match r {
+            Ok(s) => ViewAnswer {
+                refusal: 0,
+                found: 0,
+                position: s.position,
+                kind: u32::from(s.kind),
+                doubles: u32::from(s.doubles),
+                primed: u32::from(s.primed),
+                armed: u32::from(s.armed),
+                homed: u32::from(s.homed),
+                range: u32::from(s.range),
+                index: u32::from(s.index),
                 unused: 0,
+            },
+            Err(e) => {
+                let Answer { refusal, found, .. } = Answer::from(e);
+                ViewAnswer {
+                    refusal,
+                    found,
+                    ..ViewAnswer::default()
+                }
             }
         }
     }

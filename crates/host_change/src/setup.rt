@@ -2,7 +2,7 @@
 ghost use Rattle.row_calls.specs.Calls.{setup_row, erase_row};
 ghost use Rattle.host_change.specs.Making.{MakesToC};
 
-use host_answers::answer::{Answer, of_done};
+use host_answers::answer::Answer;
 
 // An axis set up in an empty row: LENGTH, AXIS, OCCUPIED, VALUE.
 pub fn ubrenchip_setup(
@@ -15,12 +15,12 @@ pub fn ubrenchip_setup(
 ) -> Answer
     ensures { MakesToC (setup_row kind depth width turn) table.old axis table.new result }
 {
-    of_done(table_change::setup::setup(table, axis, kind, depth, width, turn))
+    Answer::from(table_change::setup::setup(table, axis, kind, depth, width, turn))
 }
 
 // Four zero words: LENGTH, AXIS.
 pub fn ubrenchip_erase(table: &mut [u64], axis: u64) -> Answer
     ensures { MakesToC erase_row table.old axis table.new result }
 {
-    of_done(table_change::setup::erase(table, axis))
+    Answer::from(table_change::setup::erase(table, axis))
 }

@@ -1,8 +1,8 @@
 -- What a port sample's answer shows to C, field by field, computed to its end: docs/RULES.md, "A port sample".
+use Rattle.std.specs.Prelude.{Ok, Err}
 use Prim.Native.Nat.{ℕ}
 use mathlib.Core.Path.{◌≡◌, refl}
 use Rattle.refusal.specs.declared.Refusal.TheVariants.{Length, Layout}
-use Rattle.table_port.specs.declared.Sampled.TheVariants.{Seen, Refused}
 use Rattle.host_port.specs.declared.SampledAnswer.{SampledAnswer}
 use Rattle.host_port.specs.Port.{answer_sampled}
 
@@ -18,8 +18,8 @@ shown refusal found doubles index broken = record {
 
 -- Each mask is shown in its own place; a refusal shows its number, and LAYOUT the number found, and no mask.
 pub sample_stated :
-    (answer_sampled (Seen (record { doubles = 1; index = 2; broken = 32768 })) ≡ shown 0 0 1 2 32768)
-    × (answer_sampled (Refused Length) ≡ shown 1 0 0 0 0)
-    × (answer_sampled (Refused (Layout 7)) ≡ shown 11 7 0 0 0)
+    (answer_sampled (Ok (record { doubles = 1; index = 2; broken = 32768 })) ≡ shown 0 0 1 2 32768)
+    × (answer_sampled (Err Length) ≡ shown 1 0 0 0 0)
+    × (answer_sampled (Err (Layout 7)) ≡ shown 11 7 0 0 0)
 unfolding answer_sampled
 sample_stated = (refl, refl, refl)

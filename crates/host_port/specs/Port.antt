@@ -1,12 +1,13 @@
 -- What a port sample answers and promises to C: docs/RULES.md, "A port sample".
-use Rattle.std.specs.Prelude.{ℕ, List}
+use Rattle.std.specs.Prelude.{ℕ, List, Result}
 use Rattle.table_port.specs.Port.{Samples, sampled_number, sampled_found, sampled_masks}
-use Rattle.table_port.specs.declared.Sampled.{Sampled}
 use Rattle.host_answers.specs.Shown.{ShownToC}
 use Rattle.host_port.specs.declared.SampledAnswer.{SampledAnswer}
+use Rattle.refusal.specs.declared.Refusal.{Refusal}
+use Rattle.table_port.specs.declared.Masks.{Masks}
 
 -- The number, found number and masks of a port sample's answer.
-unfoldable pub answer_sampled : Sampled → SampledAnswer
+unfoldable pub answer_sampled : Result Masks Refusal → SampledAnswer
 answer_sampled a = record {
   refusal = sampled_number a;
   found = sampled_found a;

@@ -4,12 +4,13 @@
 ghost use Rattle.std.specs.Prelude.{◌≡◌};
 ghost use Rattle.host_port.specs.Port.{answer_sampled, SamplesToC};
 
-use host_answers::answer::of_refusal;
-use table_port::Sampled;
+use host_answers::answer::Answer;
+use refusal::Refusal;
+use table_port::Masks;
 
 // A port sample's answer: the refusal's number, the layout number found (0), and three masks in which bit k is axis k's.
 #[repr(C)]
-#[derive(Clone, Copy)]
+#[derive(Clone, Copy, Debug, Default, PartialEq, Eq)]
 pub struct SampledAnswer {
     pub refusal: u32,
     pub found: u32,
@@ -19,26 +20,26 @@ pub struct SampledAnswer {
 }
 
 // The answer of a port sample.
-#[tactic(auto, unfolding(crate::specs::Port::answer_sampled))]
-fn of_sampled(s: Sampled) -> SampledAnswer
-    ensures { result ≡ answer_sampled s }
-{
-    match s {
-        Sampled::Seen(m) => SampledAnswer {
-            refusal: 0,
-            found: 0,
-            doubles: m.doubles as u64,
-            index: m.index as u64,
-            broken: m.broken as u64,
-        },
-        Sampled::Refused(e) => {
-            let why = of_refusal(e);
-            SampledAnswer {
-                refusal: why.refusal,
-                found: why.found,
-                doubles: 0,
-                index: 0,
-                broken: 0,
+impl From<Result<Masks, Refusal>> for SampledAnswer {
+    ghost from_gives = { λ r a. a ≡ answer_sampled r };
+
+    #[tactic(auto, unfolding(crate::specs::Port::answer_sampled))]
+    fn from(r: Result<Masks, Refusal>) -> SampledAnswer {
+        match r {
+            Ok(m) => SampledAnswer {
+                refusal: 0,
+                found: 0,
+                doubles: u64::from(m.doubles),
+                index: u64::from(m.index),
+                broken: u64::from(m.broken),
+            },
+            Err(e) => {
+                let Answer { refusal, found, .. } = Answer::from(e);
+                SampledAnswer {
+                    refusal,
+                    found,
+                    ..SampledAnswer::default()
+                }
             }
         }
     }
@@ -48,5 +49,5 @@ fn of_sampled(s: Sampled) -> SampledAnswer
 pub fn ubrenchip_sample(table: &mut [u64], port: u64) -> SampledAnswer
     ensures { SamplesToC table.old port table.new result }
 {
-    of_sampled(table_port::sample(table, port))
+    SampledAnswer::from(table_port::sample(table, port))
 }

@@ -1,4 +1,5 @@
 -- A record's size fits an answer to C.
+use Rattle.std.specs.Prelude.{Result, Ok, Err}
 use Prim.Native.Nat.{ℕ, ◌≤◌}
 use native.Mathlib.Omega.{arith}
 use mathlib.Core.Bool.{Bool, true, false, cond}
@@ -16,14 +17,12 @@ use Rattle.record.specs.Answer.{written_bytes}
 use Rattle.record_axis.specs.Limits.{within_limits}
 use Rattle.record.specs.Record.{record_of, saved_as}
 use Rattle.record_axis.specs.declared.saved.Saved.{Saved}
-use Rattle.record.specs.declared.answer.Written.TheVariants.{Bytes, Refused as Unwritten}
 use Rattle.record.proofs.RecordLaws.{written_shape}
 use Rattle.row_calls.specs.Calls.{by_status}
 use Rattle.row_saving.specs.Saving.{saved_of, save_row}
 use Rattle.table_rows.specs.Located.{located, on_found}
 use Rattle.table.specs.Call.{save_in}
-use Rattle.table_rows.specs.declared.Located.{Located}
-use Rattle.table_rows.specs.declared.Located.TheVariants.{At, Refused}
+use Rattle.refusal.specs.declared.Refusal.{Refusal}
 
 few : (kind : Bool) → cond kind 27 34 ≤ 34
 few true = omega arith
@@ -36,7 +35,7 @@ saved_few : (room : ℕ) (s : Saved) → written_bytes (saved_as room s) ≤ 34
 unfolding saved_as
 saved_few room s = go (within_limits s) (leb (length (record_of s)) room)
   where
-    go : (good fits : Bool) → written_bytes (cond good (cond fits (Bytes (length (record_of s))) (Unwritten Room)) (Unwritten Value)) ≤ 34
+    go : (good fits : Bool) → written_bytes (cond good (cond fits (Ok (length (record_of s))) (Err Room)) (Err Value)) ≤ 34
     go true true = record_few s
     go true false = omega arith
     go false fits = omega arith
@@ -45,7 +44,7 @@ row_few : (room : ℕ) (r : Row) → written_bytes (save_row room r) ≤ 34
 unfolding save_row
 row_few room r = go (status_of r)
   where
-    go : (s : Status) → written_bytes (by_status Unwritten (saved_as room (saved_of (axis_of r))) (saved_as room (saved_of (axis_of r))) s) ≤ 34
+    go : (s : Status) → written_bytes (by_status Err (saved_as room (saved_of (axis_of r))) (saved_as room (saved_of (axis_of r))) s) ≤ 34
     go Broken = omega arith
     go Empty = omega arith
     go Lines = saved_few room (saved_of (axis_of r))
@@ -55,6 +54,6 @@ row_few room r = go (status_of r)
 pub save_few : (room : ℕ) (t : List ℕ) (k : ℕ) → written_bytes (save_in room t k) ≤ 34
 save_few room t k = go (located t k)
   where
-    go : (f : Located) → written_bytes (on_found Unwritten (save_row room) f) ≤ 34
-    go (At r) = row_few room r
-    go (Refused e) = omega arith
+    go : (f : Result Row Refusal) → written_bytes (on_found Err (save_row room) f) ≤ 34
+    go (Ok r) = row_few room r
+    go (Err e) = omega arith

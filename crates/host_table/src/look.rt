@@ -3,19 +3,19 @@ ghost use Rattle.std.specs.Prelude.{◌≡◌};
 ghost use Rattle.table.specs.Call.{viewed_in, speed_in};
 ghost use Rattle.host_answers.specs.Answer.{answer_speed, answer_view};
 
-use host_answers::speeds::{SpeedAnswer, of_speed};
-use host_answers::view::{ViewAnswer, of_viewed};
+use host_answers::speeds::SpeedAnswer;
+use host_answers::view::ViewAnswer;
 
 // What an axis shows: LENGTH, AXIS, BROKEN, EMPTY.
 pub fn ubrenchip_view(table: &[u64], axis: u64) -> ViewAnswer
     ensures { result ≡ answer_view (viewed_in table.now axis) }
 {
-    of_viewed(table::look::view(table, axis))
+    ViewAnswer::from(table::look::view(table, axis))
 }
 
 // Speed by period, at a rate in samples a second: LENGTH, AXIS, BROKEN, EMPTY, KIND, VALUE, NO PERIOD.
 pub fn ubrenchip_speed_by_period(table: &[u64], axis: u64, rate: u64) -> SpeedAnswer
     ensures { result ≡ answer_speed (speed_in rate table.now axis) }
 {
-    of_speed(table::look::speed(table, axis, rate))
+    SpeedAnswer::from(table::look::speed(table, axis, rate))
 }

@@ -3,7 +3,7 @@ ghost use Rattle.row_saving.specs.Saving.{restore_row};
 ghost use Rattle.host_change.specs.Making.{MakesToC};
 ghost use Rattle.host_table.specs.Call.{SavesToC};
 
-use host_answers::answer::{Answer, of_done, of_written};
+use host_answers::answer::{Answer, of_written};
 
 // The axis's record at the front of a buffer: LENGTH, AXIS, BROKEN, EMPTY, ROOM.
 pub fn ubrenchip_save(table: &[u64], axis: u64, buffer: &mut [u8]) -> Answer
@@ -16,5 +16,5 @@ pub fn ubrenchip_save(table: &[u64], axis: u64, buffer: &mut [u8]) -> Answer
 pub fn ubrenchip_restore(table: &mut [u64], axis: u64, slice: &[u8]) -> Answer
     ensures { MakesToC (restore_row slice.now) table.old axis table.new result }
 {
-    of_done(table::saving::restore(table, axis, slice))
+    Answer::from(table::saving::restore(table, axis, slice))
 }

@@ -1,15 +1,16 @@
 -- The laws of positions and their words.
-use mathlib.Core.Path.{◌≡◌, refl, sym, ◌∙◌, subst}
-use mathlib.Core.Bool.{true, false, and-eq-true_iff}
+use mathlib.Core.Path.{◌≡◌, refl, sym}
+use mathlib.Core.Bool.{Bool, true, false, cond, ◌&&◌, and-eq-true_iff}
 use mathlib.Core.Logic.{⊎_elim}
 use Prim.Native.Nat.{ℕ, suc, ◌+◌, ◌-◌, ◌^◌, ◌≤◌, ◌<◌}
 use native.Mathlib.Omega.{arith}
-use borrow.Author.Tests.{lt-ltb, le-ltb, le-leb, ltb-true, leb-true, leb-false}
-use lib.Dec.{T, leb, lit<}
+use borrow.Author.Tests.{lt-ltb, le-ltb, le-leb, ltb-true, ltb-false, leb-true}
+use lib.Dec.{leb, ltb, lit<}
 use lib.IntN.{ℤ, pos, negsuc, nat_abs}
-use lib.Signed.{le_z, lt_z}
+use Rattle.std.specs.Ordering.{int_cmp, is_le, is_lt}
+use Rattle.std.specs.declared.cmp.Ordering.TheVariants.{Less, Equal, Greater}
 use Rattle.integers.specs.Integer.{plus, minus}
-use Rattle.integers.proofs.Balance.{abs_is, eq_z, bal_sub, sign}
+use Rattle.integers.proofs.Balance.{abs_is, eq_z, bal_sub, sign, Decided, yes, no, test}
 use Rattle.position.specs.Position.{in_range, is_word, Word, word_of, position_of}
 
 -- ---- the range, by the two sides of a number
@@ -26,16 +27,21 @@ pub range_is : (p : ℤ) → in_range p ≡ true → plus p + minus p < 2 ^ 62
 unfolding in_range
 range_is p h = omega (arith, abs_is p, ltb-true (nat_abs p) (2 ^ 62) h)
 
--- the two tests of the code
-pub upper : (p : ℤ) → le_z (negsuc (2 ^ 62 - 2)) p ≡ true → lt_z p (pos (2 ^ 62)) ≡ in_range p
+-- the test of the code: the least position or above, and below the first number past the last one
+pub within : (p : ℤ) → (is_le (int_cmp (negsuc (2 ^ 62 - 2)) p) && is_lt (int_cmp p (pos (2 ^ 62)))) ≡ in_range p
 unfolding in_range
-upper (pos a) h = refl
-upper (negsuc a) h = sym (lt-ltb (suc a) (2 ^ 62) (omega (arith, leb-true a _ h)))
-
-pub lower : (p : ℤ) → le_z (negsuc (2 ^ 62 - 2)) p ≡ false → le_z (negsuc (2 ^ 62 - 2)) p ≡ in_range p
-unfolding in_range
-lower (pos a) h = absurd (subst T h tt)
-lower (negsuc a) h = h ∙ sym (le-ltb (suc a) (2 ^ 62) (omega (arith, leb-false a _ h)))
+within (pos a) = go (ltb a (2 ^ 62)) (ltb (2 ^ 62) a)
+  where
+    go : (b c : Bool) → is_lt (cond b Less (cond c Greater Equal)) ≡ b
+    go true c = refl
+    go false true = refl
+    go false false = refl
+within (negsuc a) = go (test (ltb a (2 ^ 62 - 2))) (test (ltb (2 ^ 62 - 2) a))
+  where
+    go : Decided (ltb a (2 ^ 62 - 2)) → Decided (ltb (2 ^ 62 - 2) a) → (is_le (int_cmp (negsuc (2 ^ 62 - 2)) (negsuc a)) && true) ≡ ltb (suc a) (2 ^ 62)
+    go (yes e) d = rw e (sym (lt-ltb (suc a) (2 ^ 62) (omega (arith, ltb-true))))
+    go (no e) (yes f) = rw (e, f) (sym (le-ltb (suc a) (2 ^ 62) (omega (arith, ltb-true))))
+    go (no e) (no f) = rw (e, f) (sym (lt-ltb (suc a) (2 ^ 62) (omega (arith, ltb-false))))
 
 -- ---- a word and its position
 

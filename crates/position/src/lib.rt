@@ -21,14 +21,14 @@ const LEAST: i64 = 1 - MIDDLE;
 pub fn in_range(position: i64) -> bool
     ensures { result ≡ in_range position }
 {
-    LEAST <= position && position < MIDDLE
+    (LEAST..MIDDLE).contains(&position)
 }
 
 // Whether a word holds a position.
 pub fn is_word(word: u64) -> bool
     ensures { result ≡ is_word word }
 {
-    (FIRST <= word) & (word <= LAST)
+    (FIRST..=LAST).contains(&word)
 }
 
 // The word that holds a position.

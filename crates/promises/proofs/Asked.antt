@@ -39,7 +39,7 @@ use Rattle.record.specs.Record.{layout_refusal, read_as}
 use Rattle.row_sample.specs.Sample.{step_by, step_row}
 use Rattle.row_calls.specs.Calls.{setup_row, place_row, preset_row, arm_row, acknowledge_row}
 use Rattle.row_calls.specs.Change.{changed}
-use Rattle.row_calls.specs.declared.apply.Change.TheVariants.{Setup, Erase, Preset, Arm, Acknowledge}
+use Rattle.row_calls.specs.Calls.{Setup, Erase, Preset, Arm, Acknowledge}
 use Rattle.row_view.specs.View.{view_row}
 use Rattle.row_counter.specs.Reading.{reading_row, stored_row, read_row}
 use Rattle.row_counter.specs.Counter.{UnderHalf, still, polled}

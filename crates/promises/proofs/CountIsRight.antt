@@ -1,4 +1,5 @@
 -- Demand 2 for tables: row k of any run of calls is what the history of axis k tells.
+use Rattle.std.specs.Prelude.{Ok}
 use mathlib.Core.Path.{◌≡◌, refl, sym, ap, ◌∙◌}
 use mathlib.Core.Logic.{◌≢◌}
 use mathlib.Core.Bool.{false, ◌&&◌}
@@ -32,7 +33,6 @@ use Rattle.table_rows.specs.Table.{axes_in, row_at, AllWords}
 use Rattle.table_rows.proofs.RowsLaws.{row_words}
 use Rattle.table_port.specs.Port.{nibble, sampled_answer}
 use Rattle.table_port.specs.declared.Masks.{Masks}
-use Rattle.table_port.specs.declared.Sampled.TheVariants.{Seen}
 use Rattle.table_port.proofs.PortLaws.{sample_bits, empty_row_lem, counter_row, broken_row}
 use Rattle.promises.specs.Own.{seen, event_of, events, own, row_run}
 use Rattle.promises.proofs.RunLaws.{alone}
@@ -113,7 +113,7 @@ module _ (t : List ℕ) (k : ℕ) (words : AllWords t) (h : k < axes_in (length 
       position_of (row_at (table_run t cs) k).w0 ≡ (phase_of (row_at t k) (own k cs)).place
   counter_told s = ap (λ (r : Row). position_of r.w0) row_is ∙ position_counter first_words (own k cs) (status_is s)
 
-  module _ (word : ℕ) (m : Masks) (e : sampled_answer (table_run t cs) word ≡ Seen m) where
+  module _ (word : ℕ) (m : Masks) (e : sampled_answer (table_run t cs) word ≡ Ok m) where
     -- The double bit of a sample after the run is that of row k alone.
     pub double_is : flag_of k m.doubles ≡ (step_row (row_since (row_at t k) (own k cs)) (nibble word k)).double
     double_is =

@@ -4,6 +4,7 @@
 -- `ReadingMakes`, `SaveMakes`, `viewed_in` and `speed_in` promise, in the contracts of table_port, table_change and table, and for a speed by
 -- count `speed_by_count`, in that of speed. A run of calls is told by `table_run` and `heard` of runs, and RunIs there says that each of its
 -- calls is what that call's contract promises.
+use Rattle.std.specs.Prelude.{Result, Ok, Err, ⊤}
 use Prim.Native.Nat.{ℕ, ◌+◌, ◌*◌, ◌≤◌, ◌<◌, min}
 use mathlib.Core.Path.{◌≡◌, subst}
 use mathlib.Core.Logic.{◌↔◌, ◌≢◌}
@@ -27,20 +28,13 @@ use Rattle.axis.specs.Row.{axis_of, row_of, fresh, fresh_at}
 use Rattle.axis_sound.specs.Sound.{status_of}
 use Rattle.axis_sound.specs.declared.Status.TheVariants.{Empty, Sampled, Counter}
 use Rattle.axis_filter.specs.Lines.{raw_of}
-use Rattle.record.specs.declared.answer.Written.{Written}
-use Rattle.record.specs.declared.answer.Written.TheVariants.{Bytes, Refused as Unwritten}
 use Rattle.row_calls.specs.Calls.{config_of, setup_row, erase_row}
-use Rattle.row_calls.specs.declared.answer.Done.{Done}
-use Rattle.row_calls.specs.declared.answer.Done.TheVariants.{Yes, Refused as Undone}
 use Rattle.row_counter.specs.Counter.{newest, low_bits, UnderHalf}
 use Rattle.row_saving.specs.Saving.{restore_row}
 use Rattle.table_rows.specs.Table.{axes_in, row_at, AllWords}
 use Rattle.table_port.specs.Port.{nibble, sampled_answer, Samples}
 use Rattle.table_port.specs.declared.Masks.{Masks}
-use Rattle.table_port.specs.declared.Sampled.{Sampled as Sample}
-use Rattle.table_port.specs.declared.Sampled.TheVariants.{Seen, Refused}
 use Rattle.table_change.specs.Making.{Makes}
-use Rattle.row_view.specs.declared.answer.Viewed.TheVariants.{Shows}
 use Rattle.table.specs.Call.{viewed_in, SaveMakes}
 use Rattle.table.proofs.SaveLaws.{unsaved_keeps}
 use Rattle.history_axis.specs.Levels.{primed_at}
@@ -79,8 +73,8 @@ use Rattle.promises.proofs.ToldAlone.{heard_told}
 
 -- HEADLINE: a port sample is refused exactly where the slice is not four words for each of 1 to the most axes there may be, by LENGTH, and
 -- then every word stays.
-pub sample_refused : (t u : List ℕ) (word : ℕ) (a : Sample) → Samples t word u a → (e : Refusal) →
-    ((a ≡ Refused e) ↔ (((n : ℕ) → 1 ≤ n → n ≤ most_axes → length t ≢ n * 4) × (e ≡ Length))) × (a ≡ Refused e → u ≡ t)
+pub sample_refused : (t u : List ℕ) (word : ℕ) (a : Result Masks Refusal) → Samples t word u a → (e : Refusal) →
+    ((a ≡ Err e) ↔ (((n : ℕ) → 1 ≤ n → n ≤ most_axes → length t ≢ n * 4) × (e ≡ Length))) × (a ≡ Err e → u ≡ t)
 sample_refused t u word a = sample_says t u word a
 
 -- HEADLINE: a call that names an axis answers the reasons 1 to 5 and 13 exactly when their lines say; on a row that it takes it answers as
@@ -90,7 +84,7 @@ pub call_refused : (o : Op) (t u : List ℕ) (k : ℕ) (a : Told) → Says o t k
 call_refused o t u k a = call_says o t u k a
 
 -- HEADLINE: a save that is refused keeps every byte of its buffer.
-pub save_refused : (t b d : List ℕ) (k : ℕ) (e : Refusal) → SaveMakes t k b d (Unwritten e) → d ≡ b
+pub save_refused : (t b d : List ℕ) (k : ℕ) (e : Refusal) → SaveMakes t k b d (Err e) → d ≡ b
 save_refused t b d k e = unsaved_keeps t k b e
 
 -- HEADLINE: any number of setups, restores and looks of rows that are not empty, broken ones too, change no word of the table.
@@ -98,9 +92,9 @@ pub occupied_kept : (t : List ℕ) (cs : List Call) → OnFull t cs → table_ru
 occupied_kept = keeps_all
 
 -- HEADLINE: and any row can be freed: an erase is done whatever it holds, and after it a setup with good arguments is done.
-pub row_freed : (t : List ℕ) (k kind depth width turn : ℕ) {u v : List ℕ} {a b : Done} → k < axes_in (length t) →
+pub row_freed : (t : List ℕ) (k kind depth width turn : ℕ) {u v : List ℕ} {a b : Result ⊤ Refusal} → k < axes_in (length t) →
     good_config kind depth width turn ≡ true → Makes erase_row t k u a → Makes (setup_row kind depth width turn) u k v b →
-    (a ≡ Yes) × (b ≡ Yes) × (row_at v k ≡ row_of (fresh (config_of kind depth width turn)))
+    (a ≡ Ok tt) × (b ≡ Ok tt) × (row_at v k ≡ row_of (fresh (config_of kind depth width turn)))
 row_freed = frees
 
 -- ---- 2. The count is right
@@ -118,7 +112,7 @@ module _ (t : List ℕ) (k : ℕ) (words : AllWords t) (there : k < axes_in (len
       ≡ min 65535
       ((doubles_tally (start_axis (row_at t k) (own k cs)) (acts_since (row_at t k) (own k cs))).value
       + number_of_e (doubles_tally (start_axis (row_at t k) (own k cs)) (acts_since (row_at t k) (own k cs))).moves))
-      × (viewed_in (table_run t cs) k ≡ Shows (view_told (start_axis (row_at t k) (own k cs)) (acts_since (row_at t k) (own k cs))))
+      × (viewed_in (table_run t cs) k ≡ Ok (view_told (start_axis (row_at t k) (own k cs)) (acts_since (row_at t k) (own k cs))))
   count_told cs s = (position_told t k words there cs s, doubles_told t k words there cs s, view_told_lem t k words there cs s)
 
   -- HEADLINE: a live axis's count survives any mix of setups, restores and looks: a row that is not empty is, after any run without an
@@ -129,7 +123,7 @@ module _ (t : List ℕ) (k : ℕ) (words : AllWords t) (there : k < axes_in (len
 
   -- HEADLINE: every double step is flagged: mask bit k of any sample of a run stands exactly where row k is sampled and primed and both
   -- filtered lines, A and B, change.
-  pub double_flagged : (cs : List Call) (word : ℕ) (m : Masks) → sampled_answer (table_run t cs) word ≡ Seen m →
+  pub double_flagged : (cs : List Call) (word : ℕ) (m : Masks) → sampled_answer (table_run t cs) word ≡ Ok m →
       (status_of (row_at (table_run t cs) k) ≡ Sampled →
       flag_of k m.doubles
       ≡ (primed_at (start_axis (row_at t k) (own k cs)) (acts_since (row_at t k) (own k cs))
@@ -142,7 +136,7 @@ module _ (t : List ℕ) (k : ℕ) (words : AllWords t) (there : k < axes_in (len
   pub shaft_followed : status_of (row_at t k) ≡ Sampled → (axis_of (row_at t k)).config.kind ≡ X4 → (axis_of (row_at t k)).config.depth ≡ 1 →
       (first : ShaftSample) (cs : List Call) (old : List ShaftSample) → ShaftShown (own k cs) first old →
       ((word : ℕ) (s : ShaftSample) (m : Masks) → raw_of (nibble word k) ≡ raw_at s → turned_by first old s ≤ 2 →
-      sampled_answer (table_run t cs) word ≡ Seen m → flag_of k m.doubles ≡ eqb (turned_by first old s) 2)
+      sampled_answer (table_run t cs) word ≡ Ok m → flag_of k m.doubles ≡ eqb (turned_by first old s) 2)
       × ((ds : List Call) (new : List ShaftSample) → ShaftShown (own k (cs ++ ds)) first (new ++ old) → AtMostTwo first old new →
       Undisturbed (axis_of (row_at t k)) first old new → (axis_of (row_at (table_run t (cs ++ ds)) k)).flags.range ≡ false →
       position_of (row_at (table_run t (cs ++ ds)) k).w0
@@ -181,24 +175,24 @@ module _ (t : List ℕ) (k : ℕ) (words : AllWords t) (there : k < axes_in (len
 
 -- HEADLINE: a restore of what a save wrote, at any empty row of any table and after an erase at any row, is done, and its row is the
 -- configuration and the position saved with all else 0.
-pub save_restored : (t b : List ℕ) (k n : ℕ) {d : List ℕ} → SaveMakes t k b d (Bytes n) → (u : List ℕ) (j : ℕ) → j < axes_in (length u) →
-    ((v : List ℕ) (a : Done) → status_of (row_at u j) ≡ Empty → Makes (restore_row (take n d)) u j v a →
-    (a ≡ Yes) × (row_at v j ≡ row_of (fresh_at (axis_of (row_at t k)).config (axis_of (row_at t k)).word)))
-    × ((v w : List ℕ) (a c : Done) → Makes erase_row u j v a → Makes (restore_row (take n d)) v j w c →
-    (a ≡ Yes) × (c ≡ Yes) × (row_at w j ≡ row_of (fresh_at (axis_of (row_at t k)).config (axis_of (row_at t k)).word)))
+pub save_restored : (t b : List ℕ) (k n : ℕ) {d : List ℕ} → SaveMakes t k b d (Ok n) → (u : List ℕ) (j : ℕ) → j < axes_in (length u) →
+    ((v : List ℕ) (a : Result ⊤ Refusal) → status_of (row_at u j) ≡ Empty → Makes (restore_row (take n d)) u j v a →
+    (a ≡ Ok tt) × (row_at v j ≡ row_of (fresh_at (axis_of (row_at t k)).config (axis_of (row_at t k)).word)))
+    × ((v w : List ℕ) (a c : Result ⊤ Refusal) → Makes erase_row u j v a → Makes (restore_row (take n d)) v j w c →
+    (a ≡ Ok tt) × (c ≡ Ok tt) × (row_at w j ≡ row_of (fresh_at (axis_of (row_at t k)).config (axis_of (row_at t k)).word)))
 save_restored t b k n saves u j there =
     (λ v a. restores_save t b k n saves u j there, λ v w a c. restores_erased t b k n saves u j there)
 
 -- HEADLINE: a record that was accepted, saved again, is the same bytes, with nothing beyond them touched.
-pub restore_saved : (s t u : List ℕ) (k : ℕ) → AllBytes s → Makes (restore_row s) t k u Yes → (b : List ℕ) {d : List ℕ} {a : Written} →
-    SaveMakes u k b d a → length s ≤ length b → (a ≡ Bytes (length s)) × (d ≡ s ++ drop (length s) b)
+pub restore_saved : (s t u : List ℕ) (k : ℕ) → AllBytes s → Makes (restore_row s) t k u (Ok tt) → (b : List ℕ) {d : List ℕ} {a : Result ℕ Refusal} →
+    SaveMakes u k b d a → length s ≤ length b → (a ≡ Ok (length s)) × (d ≡ s ++ drop (length s) b)
 restore_saved = saves_restored
 
 -- HEADLINE: a record of another layout, 01 00 02 and then a number other than 1, is refused by LAYOUT with that number, whatever follows,
 -- and nothing changes.
 pub layout_refused : (t : List ℕ) (k high low : ℕ) (rest : List ℕ) → high < 256 → low < 256 → high * 256 + low ≢ 1 →
-    k < axes_in (length t) → {u : List ℕ} {a : Done} → Makes (restore_row (1 ∷ 0 ∷ 2 ∷ high ∷ low ∷ rest)) t k u a →
-    (a ≡ Undone (Layout (high * 256 + low))) × (u ≡ t)
+    k < axes_in (length t) → {u : List ℕ} {a : Result ⊤ Refusal} → Makes (restore_row (1 ∷ 0 ∷ 2 ∷ high ∷ low ∷ rest)) t k u a →
+    (a ≡ Err (Layout (high * 256 + low))) × (u ≡ t)
 layout_refused = other_layout
 
 -- HEADLINE: speeds add up to what was counted: over any list of answers of the two speed calls at one rate F with one divisor T, T times

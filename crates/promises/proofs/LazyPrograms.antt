@@ -1,5 +1,6 @@
 -- The five lazy programs of docs/RULES.md, "Programs that would slip past a lazy claim", and what shuts each out. Position always 0 is shut
 -- out by CountIsRight.position_told and ReadingsHold.readings_hold, an invented doubles number by CountIsRight.doubles_told.
+use Rattle.std.specs.Prelude.{Err}
 use mathlib.Core.Path.{◌≡◌, sym, ap, ◌∙◌}
 use mathlib.Core.Logic.{◌≢◌}
 use mathlib.Core.Bool.{true, false}
@@ -21,7 +22,6 @@ use Rattle.axis_decode.specs.Decode.{entry, worth}
 use Rattle.axis_decode.specs.declared.Move.TheVariants.{Forward}
 use Rattle.table_rows.specs.Table.{axes_in, row_at, AllWords}
 use Rattle.table_port.specs.Port.{nibble, sampled_answer}
-use Rattle.table_port.specs.declared.Sampled.TheVariants.{Refused}
 use Rattle.table_port.proofs.PortLaws.{sample_refused}
 use Rattle.history_axis.specs.Acts.{sampled}
 use Rattle.history_axis.specs.Levels.{primed_at}
@@ -34,7 +34,7 @@ use Rattle.promises.specs.Own.{own}
 use Rattle.promises.proofs.CountIsRight.{first_words, row_is, status_is, next_is}
 
 -- Refusing everything: a table of a legal length is sampled, never refused.
-pub not_everything_refused : (t : List ℕ) (word : ℕ) (e : Refusal) → axes_in (length t) ≢ 0 → sampled_answer t word ≡ Refused e → ⊥
+pub not_everything_refused : (t : List ℕ) (word : ℕ) (e : Refusal) → axes_in (length t) ≢ 0 → sampled_answer t word ≡ Err e → ⊥
 not_everything_refused t word e legal q = legal ((sample_refused t word e).0 q).0
 
 one_on : (p : ℤ) → p ≡ p +ℤ pos 1 → ⊥

@@ -1,4 +1,5 @@
 -- No setup over a live axis: what is refused on a row that is not empty, how a row is freed, and that a count survives.
+use Rattle.std.specs.Prelude.{Result, Ok, Err, ⊤}
 use Prim.Native.Nat.{ℕ, ◌<◌}
 use mathlib.Core.Path.{◌≡◌, refl, sym, ap, ◌∙◌}
 use mathlib.Core.Logic.{◌≢◌}
@@ -12,17 +13,11 @@ use Rattle.axis.specs.declared.row.Row.{Row}
 use Rattle.axis_sound.specs.Sound.{status_of}
 use Rattle.axis_sound.specs.declared.Status.TheVariants.{Empty}
 use Rattle.row_calls.specs.Calls.{config_of, setup_row, erase_row}
-use Rattle.row_calls.specs.declared.apply.Change.TheVariants.{Setup, Erase, Preset, Arm, Acknowledge}
-use Rattle.row_calls.specs.declared.answer.Changed.{Changed}
-use Rattle.row_calls.specs.declared.answer.Changed.TheVariants.{Kept}
-use Rattle.row_calls.specs.declared.answer.Done.{Done}
-use Rattle.row_calls.specs.declared.answer.Done.TheVariants.{Yes}
+use Rattle.row_calls.specs.Calls.{Setup, Erase, Preset, Arm, Acknowledge}
 use Rattle.row_calls.proofs.SetupLaws.{setup_full, setup_done, erase_makes}
 use Rattle.row_saving.proofs.SaveLaws.{restore_full}
 use Rattle.table_rows.specs.Table.{axes_in, row_at, AllWords}
 use Rattle.table_rows.specs.Located.{located, on_found}
-use Rattle.table_rows.specs.declared.Located.{Located}
-use Rattle.table_rows.specs.declared.Located.TheVariants.{At, Refused}
 use Rattle.table_rows.proofs.LocatedLaws.{found}
 use Rattle.table_change.specs.Making.{ruled, table_after, Makes}
 use Rattle.table_change.proofs.MakingLaws.{makes_spares, makes_done}
@@ -40,13 +35,13 @@ use Rattle.promises.proofs.CountIsRight.{first_words, row_is}
 
 module _ (t : List ℕ) (k : ℕ) where
   -- A call whose rule leaves the named row leaves the table.
-  kept_by : (rule : Row → Changed) (e : Refusal) → rule (row_at t k) ≡ Kept e → table_after t k (ruled rule t k) ≡ t
+  kept_by : (rule : Row → Result Row Refusal) (e : Refusal) → rule (row_at t k) ≡ Err e → table_after t k (ruled rule t k) ≡ t
   unfolding table_after
   kept_by rule e q = go (located t k) refl
     where
-      go : (l : Located) → located t k ≡ l → table_after t k (on_found Kept rule l) ≡ t
-      go (Refused f) p = refl
-      go (At r) p = ap (table_after t k) (ap rule (sym (found t k r p).1) ∙ q)
+      go : (l : Result Row Refusal) → located t k ≡ l → table_after t k (on_found Err rule l) ≡ t
+      go (Err f) p = refl
+      go (Ok r) p = ap (table_after t k) (ap rule (sym (found t k r p).1) ∙ q)
 
   -- A setup, a restore or a look of a row that is not empty leaves every word of the table.
   full_table : (o : Op) → unheeded (asked o) ≡ true → status_of (row_at t k) ≢ Empty → table_by t k o ≡ t
@@ -71,17 +66,17 @@ keeps_all t (names k o ∷ cs) on =
 -- ---- how a row is freed
 
 -- An erase is done on any row, and leaves it empty.
-pub erase_frees : (t : List ℕ) (k : ℕ) {u : List ℕ} {a : Done} → k < axes_in (length t) → Makes erase_row t k u a →
-    (a ≡ Yes) × (k < axes_in (length u)) × (status_of (row_at u k) ≡ Empty)
+pub erase_frees : (t : List ℕ) (k : ℕ) {u : List ℕ} {a : Result ⊤ Refusal} → k < axes_in (length t) → Makes erase_row t k u a →
+    (a ≡ Ok tt) × (k < axes_in (length u)) × (status_of (row_at u k) ≡ Empty)
 erase_frees t k there w =
     let m = erase_makes (row_at t k) in
     let d = makes_done erase_row empty_row there m.0 w in
     (d.0, rw (makes_spares erase_row w).size there, ap status_of d.1 ∙ m.1.status)
 
 -- So any row, a live and a broken one too, can be erased and then set up.
-pub frees : (t : List ℕ) (k kind depth width turn : ℕ) {u v : List ℕ} {a b : Done} → k < axes_in (length t) →
+pub frees : (t : List ℕ) (k kind depth width turn : ℕ) {u v : List ℕ} {a b : Result ⊤ Refusal} → k < axes_in (length t) →
     good_config kind depth width turn ≡ true → Makes erase_row t k u a → Makes (setup_row kind depth width turn) u k v b →
-    (a ≡ Yes) × (b ≡ Yes) × (row_at v k ≡ row_of (fresh (config_of kind depth width turn)))
+    (a ≡ Ok tt) × (b ≡ Ok tt) × (row_at v k ≡ row_of (fresh (config_of kind depth width turn)))
 frees t k kind depth width turn {u} there good erases sets =
     let e = erase_frees t k there erases in
     let s = makes_done (setup_row kind depth width turn) _ e.1 (setup_done kind depth width turn (row_at u k) e.2 good) sets in

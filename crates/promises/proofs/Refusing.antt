@@ -1,4 +1,5 @@
 -- Demand 1 for tables: when a port sample and a call are refused, by what they promise.
+use Rattle.std.specs.Prelude.{Result, Err}
 use Prim.Native.Nat.{ℕ, ◌*◌, ◌≤◌}
 use mathlib.Core.Path.{◌≡◌}
 use mathlib.Core.Logic.{◌↔◌, ◌≢◌}
@@ -9,18 +10,17 @@ use Rattle.refusal.specs.declared.Refusal.TheVariants.{Length}
 use Rattle.axis.specs.Limit.{most_axes}
 use Rattle.table_rows.proofs.RowsLaws.{length_wrong}
 use Rattle.table_port.specs.Port.{Samples}
-use Rattle.table_port.specs.declared.Sampled.{Sampled}
-use Rattle.table_port.specs.declared.Sampled.TheVariants.{Refused}
 use Rattle.table_port.proofs.PortLaws.{sample_refused, refused_keeps}
 use Rattle.runs.specs.Told.{Told, refused}
 use Rattle.runs.specs.Op.{Op}
 use Rattle.runs.specs.Run.{table_next, Says}
 use Rattle.runs.specs.Refusing.{RefusesExactly}
 use Rattle.runs.proofs.RefusingLaws.{refuses_exactly, refused_table}
+use Rattle.table_port.specs.declared.Masks.{Masks}
 
 -- A port sample.
-pub sample_says : (t u : List ℕ) (word : ℕ) (a : Sampled) → Samples t word u a → (e : Refusal) →
-    ((a ≡ Refused e) ↔ (((n : ℕ) → 1 ≤ n → n ≤ most_axes → length t ≢ n * 4) × (e ≡ Length))) × (a ≡ Refused e → u ≡ t)
+pub sample_says : (t u : List ℕ) (word : ℕ) (a : Result Masks Refusal) → Samples t word u a → (e : Refusal) →
+    ((a ≡ Err e) ↔ (((n : ℕ) → 1 ≤ n → n ≤ most_axes → length t ≢ n * 4) × (e ≡ Length))) × (a ≡ Err e → u ≡ t)
 sample_says t u word a w e =
     let none = length_wrong (length t) in
     let says = sample_refused t word e in

@@ -1,5 +1,6 @@
 -- One call, and a run of calls, as one axis has them: its row after them and all that it is told follow from its row before and its own
 -- events.
+use Rattle.std.specs.Prelude.{Result, Ok, Err}
 use mathlib.Core.Path.{◌≡◌, refl, sym, ap, ◌∙◌}
 use mathlib.Core.Bool.{Bool, true, false, cond}
 use mathlib.Core.List.{List, [], ◌∷◌, ◌++◌}
@@ -12,8 +13,6 @@ use Rattle.axis.specs.declared.row.Row.{Row}
 use Rattle.row_sample.specs.Sample.{step_row}
 use Rattle.table_rows.specs.Table.{axes_in, row_at}
 use Rattle.table_port.specs.Port.{nibble, sampled_answer}
-use Rattle.table_port.specs.declared.Sampled.{Sampled}
-use Rattle.table_port.specs.declared.Sampled.TheVariants.{Seen, Refused as Unsampled}
 use Rattle.table_port.proofs.PortLaws.{sample_row, sample_bits, sample_refused}
 use Rattle.runs.specs.Told.{Told, marks, marks_of}
 use Rattle.runs.specs.Op.{Look, Op, view, speed, save, changes, restore, reading, looks, look_row, rule_of, answer_of, row_after}
@@ -22,6 +21,8 @@ use Rattle.runs.specs.Run.{Call, port, names, table_by, table_next, table_run, b
 use Rattle.runs.proofs.CallLaws.{next_length, other_row, named_row, named_answer}
 use Rattle.promises.specs.Own.{seen_look, seen, event_of, events, row_run, tolds, rows_from}
 use Rattle.promises.proofs.SaveBytes.{save_alike}
+use Rattle.refusal.specs.declared.Refusal.{Refusal}
+use Rattle.table_port.specs.declared.Masks.{Masks}
 
 -- ---- what an axis sees of a call is all that matters to it
 
@@ -59,13 +60,13 @@ module _ (t : List ℕ) (k : ℕ) (h : k < axes_in (length t)) where
       go false e = other_row t j k o (λ q. eqb-false j k e (sym q))
 
   -- what axis k is told by a call is what its row alone is told by k's own part
-  sample_heard : (word : ℕ) (a : Sampled) → sampled_answer t word ≡ a →
+  sample_heard : (word : ℕ) (a : Result Masks Refusal) → sampled_answer t word ≡ a →
       bits_of k a ≡ marks (marks_of (step_row (row_at t k) (nibble word k))) ∷ []
   unfolding bits_of
-  sample_heard word (Seen m) e =
+  sample_heard word (Ok m) e =
       let b = sample_bits t word k h m e in
       rw (b.doubles, b.index, b.broken)
-  sample_heard word (Unsampled e) q = absurd (omega (arith, ((sample_refused t word e).0 q).0))
+  sample_heard word (Err e) q = absurd (omega (arith, ((sample_refused t word e).0 q).0))
 
   heard_next : (c : Call) → heard_of k t c ≡ tolds (row_at t k) (event_of k c)
   unfolding heard_of event_of tolds told_of

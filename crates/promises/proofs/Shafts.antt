@@ -1,4 +1,5 @@
 -- A shaft on row k of any run: a sampled x4 axis at depth 1, and a counter.
+use Rattle.std.specs.Prelude.{Result, Ok}
 use Prim.Native.Nat.{ℕ, ◌≤◌, ◌<◌}
 use mathlib.Core.Path.{◌≡◌, sym, ap, ◌∙◌}
 use mathlib.Core.Bool.{false}
@@ -8,7 +9,6 @@ use lib.IntN.{ℤ, ◌+ℤ◌, ◌-ℤ◌}
 use lib.ListN.{length}
 use Rattle.fields.specs.Field.{flag_of}
 use Rattle.position.specs.Position.{position_of}
-use Rattle.reckon.specs.declared.Reckoned.{Reckoned}
 use Rattle.axis.specs.Kind.{X4}
 use Rattle.axis.specs.Row.{axis_of}
 use Rattle.axis.specs.declared.row.Row.{Row}
@@ -19,7 +19,6 @@ use Rattle.row_counter.specs.Counter.{newest, low_bits, UnderHalf}
 use Rattle.table_rows.specs.Table.{axes_in, row_at, AllWords}
 use Rattle.table_port.specs.Port.{nibble, sampled_answer}
 use Rattle.table_port.specs.declared.Masks.{Masks}
-use Rattle.table_port.specs.declared.Sampled.TheVariants.{Seen}
 use Rattle.history_axis.specs.Shaft.{ShaftSample, raw_at, angle_at, turned_by, AtMostTwo, Undisturbed}
 use Rattle.runs.specs.Told.{number, told_number}
 use Rattle.runs.specs.Op.{reading, answer_of}
@@ -31,6 +30,7 @@ use Rattle.history.proofs.ShaftHistory.{double_at_two_row, moves_as_shaft_row}
 use Rattle.history.proofs.CounterHistory.{counter_shaft, counter_shaft_answers}
 use Rattle.promises.specs.Own.{own}
 use Rattle.promises.proofs.CountIsRight.{first_words, row_is, double_is, still_there}
+use Rattle.refusal.specs.declared.Refusal.{Refusal}
 
 module _ (t : List ℕ) (k : ℕ) (words : AllWords t) (h : k < axes_in (length t)) where
   -- ---- an x4 axis at depth 1
@@ -40,7 +40,7 @@ module _ (t : List ℕ) (k : ℕ) (words : AllWords t) (h : k < axes_in (length 
     -- Where no move is above two quarter steps, mask bit k stands at exactly the samples with two.
     pub shaft_double : (cs : List Call) (ts : List ShaftSample) → ShaftShown (own k cs) first ts →
         (word : ℕ) (s : ShaftSample) (m : Masks) →
-        raw_of (nibble word k) ≡ raw_at s → turned_by first ts s ≤ 2 → sampled_answer (table_run t cs) word ≡ Seen m →
+        raw_of (nibble word k) ≡ raw_at s → turned_by first ts s ≤ 2 → sampled_answer (table_run t cs) word ≡ Ok m →
         flag_of k m.doubles ≡ eqb (turned_by first ts s) 2
     shaft_double cs ts shown word s m levels g e =
         double_is t k words h cs word m e ∙ double_at_two_row (first_words t k words h cs) live kind depth shown (nibble word k) s levels g
@@ -73,4 +73,4 @@ module _ (t : List ℕ) (k : ℕ) (words : AllWords t) (h : k < axes_in (length 
     unfolding answer_of
     shaft_reading g =
         named_answer (table_run t cs) k (still_there t k words h cs) _
-        ∙ rw (row_is t k words h cs) (ap (λ (a : Reckoned). told_number a) (counter_shaft_answers (row_at t k) live reads g))
+        ∙ rw (row_is t k words h cs) (ap (λ (a : Result ℤ Refusal). told_number a) (counter_shaft_answers (row_at t k) live reads g))

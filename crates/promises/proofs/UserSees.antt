@@ -1,4 +1,5 @@
 -- What a user sees of axis k after any run: view, speed by period and save show what the history of axis k tells.
+use Rattle.std.specs.Prelude.{Result, Ok}
 use Prim.Native.Nat.{ℕ, ◌<◌}
 use mathlib.Core.Path.{◌≡◌, ap, ◌∙◌}
 use mathlib.Core.List.{List}
@@ -7,9 +8,7 @@ use Rattle.axis_sound.specs.Sound.{status_of}
 use Rattle.axis_sound.specs.declared.Status.TheVariants.{Sampled, Counter}
 use Rattle.record_axis.specs.declared.saved.Saved.{Saved}
 use Rattle.record.specs.Record.{saved_as, written}
-use Rattle.record.specs.declared.answer.Written.{Written}
 use Rattle.row_view.specs.View.{view_row}
-use Rattle.row_view.specs.declared.answer.Viewed.TheVariants.{Shows}
 use Rattle.row_speed.specs.Speed.{speed_of, speed_row}
 use Rattle.row_saving.specs.Saving.{save_row, saved_in}
 use Rattle.table_rows.specs.Table.{axes_in, row_at, AllWords}
@@ -22,18 +21,19 @@ use Rattle.history.specs.Seen.{view_told, pace_told, saved_told, counter_view, c
 use Rattle.history.proofs.SeenHistory.{view_seen, speed_seen, save_seen, view_counter_seen, save_counter_seen}
 use Rattle.promises.specs.Own.{own}
 use Rattle.promises.proofs.CountIsRight.{first_words, row_is, status_is, still_there}
+use Rattle.refusal.specs.declared.Refusal.{Refusal}
 
 module _ (t : List ℕ) (k : ℕ) (words : AllWords t) (h : k < axes_in (length t)) (cs : List Call) where
   -- A view of a sampled axis: position, flags and doubles as they are told.
   pub view_told_lem : status_of (row_at (table_run t cs) k) ≡ Sampled →
-      viewed_in (table_run t cs) k ≡ Shows (view_told (start_axis (row_at t k) (own k cs)) (acts_since (row_at t k) (own k cs)))
+      viewed_in (table_run t cs) k ≡ Ok (view_told (start_axis (row_at t k) (own k cs)) (acts_since (row_at t k) (own k cs)))
   view_told_lem s =
       rw (← (found_at (table_run t cs) k (still_there t k words h cs)))
       (ap view_row (row_is t k words h cs) ∙ view_seen (first_words t k words h cs) (own k cs) (status_is t k words h cs s))
 
   -- A view of a counter: the told place, and flags and doubles 0.
   pub view_counter_told : status_of (row_at (table_run t cs) k) ≡ Counter →
-      viewed_in (table_run t cs) k ≡ Shows (counter_view (phase_of (row_at t k) (own k cs)))
+      viewed_in (table_run t cs) k ≡ Ok (counter_view (phase_of (row_at t k) (own k cs)))
   view_counter_told s =
       rw (← (found_at (table_run t cs) k (still_there t k words h cs)))
       (ap view_row (row_is t k words h cs) ∙ view_counter_seen (first_words t k words h cs) (own k cs) (status_is t k words h cs s))
@@ -46,7 +46,7 @@ module _ (t : List ℕ) (k : ℕ) (words : AllWords t) (h : k < axes_in (length 
       (ap (speed_row rate) (row_is t k words h cs) ∙ speed_seen (first_words t k words h cs) (own k cs) (status_is t k words h cs s) rate)
 
   -- What a save makes, by what it makes of row k alone.
-  saved_as_lem : (said : Saved) {b d : List ℕ} {a : Written} → SaveMakes (table_run t cs) k b d a →
+  saved_as_lem : (said : Saved) {b d : List ℕ} {a : Result ℕ Refusal} → SaveMakes (table_run t cs) k b d a →
       (save_row (length b) (row_since (row_at t k) (own k cs)) ≡ saved_as (length b) said)
       × (saved_in b (row_since (row_at t k) (own k cs)) ≡ written b said) →
       (a ≡ saved_as (length b) said) × (d ≡ written b said)
@@ -57,14 +57,14 @@ module _ (t : List ℕ) (k : ℕ) (words : AllWords t) (h : k < axes_in (length 
       )
 
   -- A save: the record of the told configuration and position.
-  pub save_told : status_of (row_at (table_run t cs) k) ≡ Sampled → {b d : List ℕ} {a : Written} → SaveMakes (table_run t cs) k b d a →
+  pub save_told : status_of (row_at (table_run t cs) k) ≡ Sampled → {b d : List ℕ} {a : Result ℕ Refusal} → SaveMakes (table_run t cs) k b d a →
       (a ≡ saved_as (length b) (saved_told (start_axis (row_at t k) (own k cs)) (acts_since (row_at t k) (own k cs))))
       × (d ≡ written b (saved_told (start_axis (row_at t k) (own k cs)) (acts_since (row_at t k) (own k cs))))
   save_told s {b} w = saved_as_lem (saved_told (start_axis (row_at t k) (own k cs)) (acts_since (row_at t k) (own k cs))) w
       (save_seen (first_words t k words h cs) (own k cs) (status_is t k words h cs s) b)
 
   -- A save of a counter: the record of its configuration and the told place.
-  pub save_counter_told : status_of (row_at (table_run t cs) k) ≡ Counter → {b d : List ℕ} {a : Written} → SaveMakes (table_run t cs) k b d a →
+  pub save_counter_told : status_of (row_at (table_run t cs) k) ≡ Counter → {b d : List ℕ} {a : Result ℕ Refusal} → SaveMakes (table_run t cs) k b d a →
       (a ≡ saved_as (length b) (counter_saved (phase_of (row_at t k) (own k cs))))
       × (d ≡ written b (counter_saved (phase_of (row_at t k) (own k cs))))
   save_counter_told s {b} w = saved_as_lem (counter_saved (phase_of (row_at t k) (own k cs))) w

@@ -1,5 +1,5 @@
 -- A shaft with an index line on row k of a run: docs/RULES.md, "A port sample", Index.
-use Rattle.std.specs.Prelude.{ℕ, ◌≡◌, ◌↔◌, Bool, true, false, List, [], ◌∷◌, ◌++◌, ℤ, ◌-ℤ◌}
+use Rattle.std.specs.Prelude.{ℕ, ◌≡◌, ◌↔◌, Bool, true, false, List, [], ◌∷◌, ◌++◌, ℤ, ◌-ℤ◌, Ok}
 use Rattle.fields.specs.Field.{flag_of}
 use Rattle.position.specs.Position.{position_of}
 use Rattle.axis.specs.Row.{axis_of}
@@ -7,7 +7,6 @@ use Rattle.axis.specs.declared.row.Axis.{Axis}
 use Rattle.table_rows.specs.Table.{row_at}
 use Rattle.table_port.specs.Port.{sampled_answer}
 use Rattle.table_port.specs.declared.Masks.{Masks}
-use Rattle.table_port.specs.declared.Sampled.TheVariants.{Seen}
 use Rattle.history_axis.specs.Reference.{EdgeAngle, Over, OverEdge, Zero, homed, WholeTurns}
 use Rattle.runs.specs.Run.{Call, port, table_run}
 use Rattle.history.specs.Reference.{OnShaft}
@@ -31,7 +30,7 @@ pub record HomedOver (z : ℤ → Bool) (t : List ℕ) (k : ℕ) (cs : List Call
 -- What the next sample, which shows the shaft at the angle c, does to row k: the mask bit, the home of an armed axis, nothing at all to the
 -- zero of one that is not armed or goes over no edge, and the check.
 pub record NextSample (z : ℤ → Bool) (t : List ℕ) (k : ℕ) (cs : List Call) (b : ℤ) (o : Zero) (word : ℕ) (c : ℤ) : Type 0 where
-  pub bit : (m : Masks) → sampled_answer (table_run t cs) word ≡ Seen m → (flag_of k m.index ≡ true) ↔ OverEdge z b c
+  pub bit : (m : Masks) → sampled_answer (table_run t cs) word ≡ Ok m → (flag_of k m.index ≡ true) ↔ OverEdge z b c
   pub home : (axis_after t k cs).flags.armed ≡ true → (a : ℤ) → EdgeAngle z a → Over a b c →
       HomedOver z t k (cs ++ (port word ∷ [])) c a
   pub unarmed : (axis_after t k cs).flags.armed ≡ false → Following z t k (cs ++ (port word ∷ [])) c o

@@ -1,18 +1,16 @@
 -- The readings of docs/RULES.md that are marked P, in one table: "Readings to hold it against".
-use Rattle.std.specs.Prelude.{ℕ, Bool, true, false, List, [], ◌∷◌, ℤ, pos, negsuc}
+use Rattle.std.specs.Prelude.{ℕ, Bool, true, false, List, [], ◌∷◌, ℤ, pos, negsuc, Result, Ok, Err}
 use Rattle.position.specs.Position.{position_of}
 use Rattle.refusal.specs.declared.Refusal.TheVariants.{Half}
 use Rattle.reckon.specs.Widening.{widened}
-use Rattle.reckon.specs.declared.Reckoned.{Reckoned}
-use Rattle.reckon.specs.declared.Reckoned.TheVariants.{Number, Refused}
 use Rattle.speed.specs.Speed.{speed_by_count}
-use Rattle.speed.specs.declared.Speed.{Speed}
-use Rattle.speed.specs.declared.Speed.TheVariants.{Of}
 use Rattle.fields.specs.Field.{field_of, flag_of}
 use Rattle.axis.specs.Kind.{X1, X2, X4}
 use Rattle.axis.specs.Row.{row_of, fresh}
 use Rattle.axis.specs.declared.row.Row.{Row}
 use Rattle.row_sample.specs.Sample.{step_row}
+use Rattle.refusal.specs.declared.Refusal.{Refusal}
+use Rattle.speed.specs.declared.Quotient.{Quotient}
 
 -- The row that a setup of a kind and a depth makes.
 unfoldable pub set_up : ℕ → ℕ → Row
@@ -28,8 +26,8 @@ pub data Shown : Type 0 where
   counts : ℤ → ℕ → Shown
   level : Bool → ℤ → Shown
   both : Shown → Shown → Shown
-  reckons : Reckoned → Shown
-  speeds : Speed → Shown
+  reckons : Result ℤ Refusal → Shown
+  speeds : Result Quotient Refusal → Shown
 
 -- The position and the doubles of a row.
 unfoldable pub counted : Row → Shown
@@ -58,11 +56,11 @@ readings =
     ∷ (both (levelled (sampled_by (set_up X4 3) (0 ∷ 1 ∷ 1 ∷ 0 ∷ 1 ∷ 1 ∷ 1 ∷ [])))
     (levelled (sampled_by (set_up X4 3) (0 ∷ 1 ∷ 1 ∷ 0 ∷ 1 ∷ 1 ∷ [])))
     shows both (level true (pos 1)) (level false (pos 0)))
-    ∷ (reckons (widened 8 (pos 250) 3) shows reckons (Number (pos 259)))
-    ∷ (reckons (widened 8 (pos 250) 121) shows reckons (Number (pos 377)))
-    ∷ (reckons (widened 8 (pos 250) 122) shows reckons (Refused Half))
-    ∷ (reckons (widened 8 (pos 250) 123) shows reckons (Number (pos 123)))
-    ∷ (reckons (widened 8 (negsuc 0) 0) shows reckons (Number (pos 0)))
-    ∷ (speeds (speed_by_count (pos 1) 3 1) shows speeds (Of (record { number = pos 333; remainder = pos 1; divisor = 3 })))
-    ∷ (speeds (speed_by_count (negsuc 0) 2000 1) shows speeds (Of (record { number = negsuc 0; remainder = pos 1000; divisor = 2000 })))
+    ∷ (reckons (widened 8 (pos 250) 3) shows reckons (Ok (pos 259)))
+    ∷ (reckons (widened 8 (pos 250) 121) shows reckons (Ok (pos 377)))
+    ∷ (reckons (widened 8 (pos 250) 122) shows reckons (Err Half))
+    ∷ (reckons (widened 8 (pos 250) 123) shows reckons (Ok (pos 123)))
+    ∷ (reckons (widened 8 (negsuc 0) 0) shows reckons (Ok (pos 0)))
+    ∷ (speeds (speed_by_count (pos 1) 3 1) shows speeds (Ok (record { number = pos 333; remainder = pos 1; divisor = 3 })))
+    ∷ (speeds (speed_by_count (negsuc 0) 2000 1) shows speeds (Ok (record { number = negsuc 0; remainder = pos 1000; divisor = 2000 })))
     ∷ []

@@ -1,5 +1,6 @@
 -- What widening means: the one value nearest W with low bits r; the true position, where it moved less than half a turn; HALF at half a
 -- turn.
+use Rattle.std.specs.Prelude.{Result, Ok, Err}
 use mathlib.Core.Path.{◌≡◌, sym, ◌∙◌, subst}
 use mathlib.Core.Bool.{true, cond}
 use mathlib.Core.Logic.{◌⊎◌, inl, inr, ⊎_elim}
@@ -15,12 +16,11 @@ use Rattle.integers.proofs.Balance.{eq_z, bal_add, bal_sub, mod_z_lt, Turns, tur
 use Rattle.integers.proofs.NumberLaws.{far_cases, far_sub}
 use Rattle.position.specs.Position.{in_range}
 use Rattle.refusal.specs.declared.Refusal.TheVariants.{Value, Half, Range}
-use Rattle.reckon.specs.declared.Reckoned.{Reckoned}
-use Rattle.reckon.specs.declared.Reckoned.TheVariants.{Number, Refused}
 use Rattle.reckon.specs.Widening.{good_width, good_reading, or_range, nearest_to, widened}
 use Rattle.reckon.specs.Nearest.{Nearest, Verdict, value, half, range, at}
 use Rattle.reckon.proofs.ReckonedLaws.{refused_not}
 use Rattle.reckon.proofs.WideningLaws.{good_is, good_from, accepted, below_half, above_half, at_half}
+use Rattle.refusal.specs.declared.Refusal.{Refusal}
 
 -- ---- where a position p lies from W: t ahead, or t behind, its low bits r
 
@@ -75,7 +75,7 @@ module _ (w : ℕ) (W p : ℤ) (good : good_reading w W (mod_z p (2 ^ w)) ≡ tr
       ∙ ⊎_elim (λ h. rw h.0 (below_half _ W p _ near h.1)) (λ h. rw h.0 (above_half _ W p _ (omega arith) h.1))
       (sides w W p (omega arith))
 
-  half_position : 2 * nat_abs (p -ℤ W) ≡ 2 ^ w → widened w W (mod_z p (2 ^ w)) ≡ Refused Half
+  half_position : 2 * nat_abs (p -ℤ W) ≡ 2 ^ w → widened w W (mod_z p (2 ^ w)) ≡ Err Half
   half_position h =
       sym near_is
       ∙ ⊎_elim (λ k. rw k.0 (at_half _ W _ h)) (λ k. rw k.0 (at_half _ W _ (omega arith))) (sides w W p (omega (arith, pow_pos w)))
@@ -98,7 +98,7 @@ module _ (w : ℕ) (W : ℤ) (r : ℕ) (good : good_reading w W r ≡ true) wher
   unfolding or_range
   settled p b l = go (test (in_range p)) (rw b at (near_position w W p (rw b good) l))
     where
-      go : Decided (in_range p) → widened w W r ≡ cond (in_range p) (Number p) (Refused Range) → Verdict w W r (widened w W r)
+      go : Decided (in_range p) → widened w W r ≡ cond (in_range p) (Ok p) (Err Range) → Verdict w W r (widened w W r)
       go (yes e) q = at good p b l e (rw e at q)
       go (no e) q = range good p b l e (rw e at q)
 
@@ -139,7 +139,7 @@ verdict w W r = go (test (good_reading w W r))
     go (no e) = value e (unfold widened in rw e)
 
 -- And wherever a reason holds, its answer is given.
-pub verdict_only : (w : ℕ) (W : ℤ) (r : ℕ) (a : Reckoned) → Verdict w W r a → widened w W r ≡ a
+pub verdict_only : (w : ℕ) (W : ℤ) (r : ℕ) (a : Result ℤ Refusal) → Verdict w W r a → widened w W r ≡ a
 unfolding widened or_range
 verdict_only w W r a (value g e) = rw g (sym e)
 verdict_only w W r a (half g p b h e) = rw b at (half_position w W p (rw b g) h) ∙ sym e
@@ -151,12 +151,12 @@ module _ (w : ℕ) (W p : ℤ) (wide : good_width w ≡ true) (okW : in_range W 
   good_low = good_from w W (mod_z p (2 ^ w)) wide okW (mod_z_lt p (pow_pos w))
 
   -- Where the true position p lies in the range and less than half a turn from W, its low bits widen to it, below zero too.
-  pub true_position : in_range p ≡ true → 2 * nat_abs (p -ℤ W) < 2 ^ w → widened w W (mod_z p (2 ^ w)) ≡ Number p
+  pub true_position : in_range p ≡ true → 2 * nat_abs (p -ℤ W) < 2 ^ w → widened w W (mod_z p (2 ^ w)) ≡ Ok p
   unfolding or_range
   true_position ok near = rw ok at (near_position w W p good_low near)
 
   -- Exactly half a turn is HALF, whichever way the shaft turned, near the limits of the range and beyond them too.
-  pub half_turn : 2 * nat_abs (p -ℤ W) ≡ 2 ^ w → widened w W (mod_z p (2 ^ w)) ≡ Refused Half
+  pub half_turn : 2 * nat_abs (p -ℤ W) ≡ 2 ^ w → widened w W (mod_z p (2 ^ w)) ≡ Err Half
   half_turn = half_position w W p good_low
 
 -- ---- what an answer says
@@ -177,7 +177,7 @@ only w W z r b n y e = go (test (ltb (nat_abs (z -ℤ W)) (nat_abs (y -ℤ W))))
         inl (near_one (at_r y e) (at_r z b) (omega arith) (omega arith))
 
 -- An answer lies in the range, and is the one value nearest W with low bits r: any other is strictly farther.
-pub nearest : (w : ℕ) (W z : ℤ) (r : ℕ) → widened w W r ≡ Number z → (in_range z ≡ true) × Nearest w W r z
+pub nearest : (w : ℕ) (W z : ℤ) (r : ℕ) → widened w W r ≡ Ok z → (in_range z ≡ true) × Nearest w W r z
 nearest w W z r h = go (verdict w W r)
   where
     go : Verdict w W r (widened w W r) → (in_range z ≡ true) × Nearest w W r z
@@ -190,10 +190,10 @@ nearest w W z r h = go (verdict w W r)
 
 -- A value in the range that has the low bits of a good reading and lies nearest W in this sense is the answer.
 pub nearest_only : (w : ℕ) (W z : ℤ) (r : ℕ) → good_width w ≡ true → in_range W ≡ true → in_range z ≡ true → Nearest w W r z →
-    widened w W r ≡ Number z
+    widened w W r ≡ Ok z
 nearest_only w W z r wide okW ok n = rw n.bits at (true_position w W z wide okW ok n.less)
 
 -- Any other value with the low bits of a reading lies strictly farther from W than the answer.
-pub others_farther : (w : ℕ) (W z y : ℤ) (r : ℕ) → widened w W r ≡ Number z → mod_z y (2 ^ w) ≡ r → (y ≡ z → ⊥) →
+pub others_farther : (w : ℕ) (W z y : ℤ) (r : ℕ) → widened w W r ≡ Ok z → mod_z y (2 ^ w) ≡ r → (y ≡ z → ⊥) →
     nat_abs (z -ℤ W) < nat_abs (y -ℤ W)
 others_farther w W z y r h e other = ⊎_elim (λ q. absurd (other q)) (λ l. l) ((nearest w W z r h).1.one y e)

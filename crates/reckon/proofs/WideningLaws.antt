@@ -1,4 +1,5 @@
 -- Widening by the word that holds a position, and when each refusal comes.
+use Rattle.std.specs.Prelude.{Err}
 use mathlib.Core.Path.{◌≡◌, refl, sym, ap, ◌∙◌}
 use mathlib.Core.Bool.{true, false, ◌&&◌, and-eq-true_iff}
 use Prim.Native.Nat.{ℕ, ◌+◌, ◌*◌, ◌-◌, ◌/◌, ◌^◌, ◌≤◌, ◌<◌}
@@ -14,7 +15,6 @@ use Rattle.integers.proofs.NumberLaws.{between}
 use Rattle.position.specs.Position.{in_range, is_word, position_of, word_of}
 use Rattle.position.proofs.PositionLaws.{range_no, position_in_range, bal_position, position_word}
 use Rattle.refusal.specs.declared.Refusal.TheVariants.{Value, Half, Range}
-use Rattle.reckon.specs.declared.Reckoned.TheVariants.{Refused}
 use Rattle.reckon.specs.Widening.{good_width, good_reading, or_range, nearest_to, widened, ahead_of}
 
 -- ---- what the three tests of a good reading say
@@ -39,11 +39,11 @@ good_from w W r h k l = rw (h, k, lt-ltb r (2 ^ w) l)
 
 -- ---- the refusal VALUE, test by test
 
-pub bad_place : (w : ℕ) (W : ℤ) (r : ℕ) → (good_width w && in_range W) ≡ false → Refused Value ≡ widened w W r
+pub bad_place : (w : ℕ) (W : ℤ) (r : ℕ) → (good_width w && in_range W) ≡ false → Err Value ≡ widened w W r
 unfolding widened good_reading
 bad_place w W r h = rw h
 
-pub bad_reading : (w : ℕ) (W : ℤ) (r : ℕ) → good_width w ≡ true → in_range W ≡ true → 2 ^ w ≤ r → Refused Value ≡ widened w W r
+pub bad_reading : (w : ℕ) (W : ℤ) (r : ℕ) → good_width w ≡ true → in_range W ≡ true → 2 ^ w ≤ r → Err Value ≡ widened w W r
 unfolding widened good_reading
 bad_reading w W r h k l = rw (h, k, le-ltb r (2 ^ w) l)
 
@@ -52,9 +52,6 @@ unfolding widened
 accepted w W r h = rw h
 
 -- ---- by the word: a position's word is 2 ^ 62 more, a whole number of turns
-
-pub ahead_small : (turn word r : ℕ) → 0 < turn → ahead_of turn word r < turn
-ahead_small turn word r p = mod-lt _ p
 
 middle : (w : ℕ) → w ≤ 32 → 2 ^ (62 - w) * 2 ^ w ≡ 2 ^ 62
 middle w h = let k : (62 - w) + w ≡ 62 = omega arith in sym (pow-add 2 (62 - w) w) ∙ ap (λ (k : ℕ). 2 ^ k) k
@@ -79,7 +76,7 @@ module _ (turn : ℕ) (W p : ℤ) (d : ℕ) where
   unfolding nearest_to
   above_half h e = rw (le-ltb (2 * d) turn (omega arith), ne_eqb (2 * d) turn (λ q. omega arith), e)
 
-pub at_half : (turn : ℕ) (W : ℤ) (d : ℕ) → 2 * d ≡ turn → nearest_to turn W d ≡ Refused Half
+pub at_half : (turn : ℕ) (W : ℤ) (d : ℕ) → 2 * d ≡ turn → nearest_to turn W d ≡ Err Half
 unfolding nearest_to
 at_half turn W d h = rw (le-ltb (2 * d) turn (omega arith), eq-eqb (2 * d) turn h)
 
@@ -99,7 +96,7 @@ module _ (turn b d : ℕ) where
         go (yes e) = absurd (k (eqb-true (2 * d) turn e))
         go (no e) = let n = eqb-false (2 * d) turn e in omega arith
 
-    pub when_outside : b + d < turn → turn ≤ 2 ^ 32 → nearest_to turn (position_of b) d ≡ Refused Range
+    pub when_outside : b + d < turn → turn ≤ 2 ^ 32 → nearest_to turn (position_of b) d ≡ Err Range
     unfolding or_range
     when_outside l m =
         above_half turn W _ d over refl

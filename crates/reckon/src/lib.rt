@@ -2,12 +2,3 @@
 #![tactic(auto)]
 
 pub mod widening; // widening.rt: a narrow counter's reading
-
-use refusal::Refusal;
-
-// What a calculation answers: a number, or the reason for saying no.
-#[derive(Clone, Copy)]
-pub enum Reckoned {
-    Number(i64),
-    Refused(Refusal),
-}

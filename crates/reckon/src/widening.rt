@@ -3,70 +3,56 @@ ghost use Rattle.std.specs.Prelude.{◌≡◌, ◌≤◌, ◌<◌, ◌^◌};
 ghost use Rattle.position.specs.Position.{position_of};
 ghost use Rattle.reckon.specs.Widening.{good_width, or_range, nearest_to, widened, ahead_of};
 
-use crate::Reckoned;
 use refusal::Refusal;
 
 // Whether a counter may have this many bits.
 fn is_width(width: u64) -> bool
     ensures { result ≡ good_width width }
 {
-    (2 <= width) & (width <= 32)
-}
-
-// How many steps a counter takes to come round.
-fn turn_of(width: u64) -> u64
-    requires { width ≤ 32 }
-    ensures { result ≡ 2 ^ width }
-{
-    1u64 << width
-}
-
-// How far ahead of a position's word a reading lies, in one turn.
-fn ahead(turn: u64, word: u64, reading: u64) -> u64
-    requires { (reading < turn) × (turn ≤ 2 ^ 32) }
-    ensures { result ≡ ahead_of turn word reading }
-{
-    (reading + (turn - word % turn)) % turn
+    (2..=32).contains(&width)
 }
 
 // The position of a word, or RANGE.
-fn or_range(word: u64) -> Reckoned
+#[tactic(auto, unfolding(crate::specs::Widening::or_range), using(crate::proofs::WideningLaws::word_range))]
+fn or_range(word: u64) -> Result<i64, Refusal>
     ensures { result ≡ or_range (position_of word) }
 {
-    if !position::is_word(word) {
-        return Reckoned::Refused(Refusal::Range);
+    if position::is_word(word) {
+        Ok(position::at_word(word))
+    } else {
+        Err(Refusal::Range)
     }
-    Reckoned::Number(position::at_word(word))
 }
 
-// The position nearest that of a word, where the reading lies d ahead of it.
-fn nearest(turn: u64, word: u64, d: u64) -> Reckoned
-    requires { (d < turn) × (turn ≤ 2 ^ 32) × (word < 2 ^ 63) }
-    ensures { result ≡ nearest_to turn (position_of word) d }
+// The position nearest that of a word for a reading, which lies d ahead of the word in one turn.
+#[tactic(auto, using(crate::proofs::WideningLaws::at_half, crate::proofs::WideningLaws::when_below, crate::proofs::WideningLaws::when_outside, crate::proofs::WideningLaws::when_above))]
+fn nearest(turn: u64, word: u64, reading: u64) -> Result<i64, Refusal>
+    requires { (reading < turn) × (turn ≤ 2 ^ 32) × (word < 2 ^ 63) }
+    ensures { result ≡ nearest_to turn (position_of word) (ahead_of turn word reading) }
 {
+    let d = (reading + (turn - word % turn)) % turn;
     if 2 * d < turn {
         return or_range(word + d);
     }
     if 2 * d == turn {
-        return Reckoned::Refused(Refusal::Half);
+        return Err(Refusal::Half);
     }
     if word + d < turn {
-        return Reckoned::Refused(Refusal::Range);
+        return Err(Refusal::Range);
     }
     or_range(word + d - turn)
 }
 
 // The position that a reading of a counter of `width` bits says, where the last one known is `position`.
-pub fn widen(width: u64, position: i64, reading: u64) -> Reckoned
+pub fn widen(width: u64, position: i64, reading: u64) -> Result<i64, Refusal>
     ensures { result ≡ widened width position reading }
 {
     if !(is_width(width) & position::in_range(position)) {
-        return Reckoned::Refused(Refusal::Value);
+        return Err(Refusal::Value);
     }
-    let turn = turn_of(width);
+    let turn = 1u64 << width;
     if turn <= reading {
-        return Reckoned::Refused(Refusal::Value);
+        return Err(Refusal::Value);
     }
-    let word = position::word_of(position);
-    nearest(turn, word, ahead(turn, word, reading))
+    nearest(turn, position::word_of(position), reading)
 }

@@ -1,4 +1,5 @@
 -- The laws of a record's checks in their order.
+use Rattle.std.specs.Prelude.{Result, Ok, Err, Some, None}
 use mathlib.Core.Path.{◌≡◌, refl, sym, ◌∙◌, subst}
 use mathlib.Core.Bool.{Bool, true, false, not, cond, ◌&&◌}
 use mathlib.Core.List.{List}
@@ -9,13 +10,8 @@ use Rattle.integers.proofs.Balance.{Decided, yes, no, test}
 use Rattle.refusal.specs.declared.Refusal.{Refusal}
 use Rattle.refusal.specs.declared.Refusal.TheVariants.{Value, Layout, Record}
 use Rattle.axis.specs.declared.config.Config.{Config}
-use Rattle.record.specs.declared.answer.Read.{Read}
-use Rattle.record.specs.declared.answer.Read.TheVariants.{Accepted}
-use Rattle.tagged.specs.declared.field.Field.TheVariants.{Value as Of, Bad}
 use Rattle.tagged.specs.Bytes.{number_at, starts}
 use Rattle.tagged.specs.Field.{stands_at, field_at}
-use Rattle.record_axis.specs.declared.axis_fields.AxisRead.{AxisRead}
-use Rattle.record_axis.specs.declared.axis_fields.AxisRead.TheVariants.{Refused as Unsaid}
 use Rattle.record.specs.Opening.{opening}
 use Rattle.record_axis.specs.Tags.{kind_tag, depth_tag, width_tag, turn_tag}
 use Rattle.record.specs.Tags.{layout_tag, end_tag}
@@ -25,29 +21,30 @@ use Rattle.record_axis.specs.Limits.{within_limits, saying}
 use Rattle.record.specs.Record.{check, layout_found, layout_refusal, ended_at, on_axis, read_as}
 use Rattle.record.specs.Order.{has_other_layout, layout_in, nine_stand, kind_in, rest_stands, said_in}
 use Rattle.record.specs.Order.{Judged, other_layout, bad_nine, bad_kind, bad_rest, bad_value, all_good}
+use Rattle.record_axis.specs.declared.saved.Saved.{Saved}
 
 -- ---- the fields' answers as checks
 
 -- A check of an axis's fields is one of the record.
-on_axis_lem : (t : Bool) (x : AxisRead) (r : Refusal) (k : Config → ℕ → ℕ → Read) → on_axis (cond t x (Unsaid r)) k ≡ check t r (on_axis x k)
+on_axis_lem : (t : Bool) (x : Result (Config × ℕ × ℕ) Refusal) (r : Refusal) (k : Config → ℕ → ℕ → Result Saved Refusal) → on_axis (cond t x (Err r)) k ≡ check t r (on_axis x k)
 on_axis_lem true x r k = refl
 on_axis_lem false x r k = refl
 
-on_kind : (t : Bool) (x y : AxisRead) (k : Config → ℕ → ℕ → Read) → on_axis (cond t x y) k ≡ cond t (on_axis x k) (on_axis y k)
+on_kind : (t : Bool) (x y : Result (Config × ℕ × ℕ) Refusal) (k : Config → ℕ → ℕ → Result Saved Refusal) → on_axis (cond t x y) k ≡ cond t (on_axis x k) (on_axis y k)
 on_kind true x y k = refl
 on_kind false x y k = refl
 
 -- Two checks with one refusal are one check of both.
-both : (a b : Bool) (r : Refusal) (x : Read) → check a r (check b r x) ≡ check (a && b) r x
+both : (a b : Bool) (r : Refusal) (x : Result Saved Refusal) → check a r (check b r x) ≡ check (a && b) r x
 both true b r x = refl
 both false b r x = refl
 
 -- The limits of what a configuration and the bits of a position say, after a check of the shape.
-abbrev judge : Bool → Config → ℕ → Read
-judge t c bits = check t Record (check (within_limits (saying c bits)) Value (Accepted (saying c bits)))
+abbrev judge : Bool → Config → ℕ → Result Saved Refusal
+judge t c bits = check t Record (check (within_limits (saying c bits)) Value (Ok (saying c bits)))
 
 -- What follows an axis's fields in a record.
-abbrev on : List ℕ → AxisRead → Read
+abbrev on : List ℕ → Result (Config × ℕ × ℕ) Refusal → Result Saved Refusal
 on s x = on_axis x (λ c bits at. ended_at s at c bits)
 
 ended_is : (s : List ℕ) (at : ℕ) (c : Config) (bits : ℕ) →
@@ -73,14 +70,14 @@ by_kind true t u c d bits = refl
 by_kind false t u c d bits = refl
 
 -- LAYOUT is looked at before the opening's other bytes.
-layout_first : (o t : Bool) (n next : ℕ) (x : Read) →
-    check o (layout_found (cond t (Of n next) Bad)) x ≡ check (not (t && not o)) (Layout n) (check o Record x)
+layout_first : (o t : Bool) (n next : ℕ) (x : Result Saved Refusal) →
+    check o (layout_found (cond t (Some (n, next)) None)) x ≡ check (not (t && not o)) (Layout n) (check o Record x)
 layout_first true true n next x = refl
 layout_first true false n next x = refl
 layout_first false true n next x = refl
 layout_first false false n next x = refl
 
-pub layout_is : (s : List ℕ) → layout_refusal s ≡ layout_found (cond (stands_at s 0 layout_tag 2) (Of (layout_in s) 5) Bad)
+pub layout_is : (s : List ℕ) → layout_refusal s ≡ layout_found (cond (stands_at s 0 layout_tag 2) (Some (layout_in s, 5)) None)
 unfolding layout_refusal field_at
 layout_is s = refl
 
@@ -92,7 +89,7 @@ in_order : (s : List ℕ)
     (check (known_kind (kind_in s)) Value
     (check (rest_stands s) Record
     (check (within_limits (said_in s)) Value
-    (Accepted (said_in s))))))
+    (Ok (said_in s))))))
 unfolding read_as axis_at has_other_layout nine_stand rest_stands said_in
 in_order s =
     rw (layout_is, layout_first, on_field_lem, on_axis_lem, both, on_axis_lem, on_field_lem, on_axis_lem, on_kind, counter_is, sampled_is, by_kind, both)
@@ -120,7 +117,7 @@ judged s =
     go (no l) (yes n) (yes k) (yes r) (no w) = bad_value n k r w (in_order s ∙ rw (l, n, k, r, w))
     go (no l) (yes n) (yes k) (yes r) (yes w) = all_good n k r w (in_order s ∙ rw (l, n, k, r, w))
 
-judges : (s : List ℕ) {r : Read} → Judged s r → read_as s ≡ r
+judges : (s : List ℕ) {r : Result Saved Refusal} → Judged s r → read_as s ≡ r
 judges s (other_layout l e) = in_order s ∙ rw l (sym e)
 judges s (bad_nine l n e) = in_order s ∙ rw (l, n) (sym e)
 judges s (bad_kind n k e) = in_order s ∙ rw (one_layout s n, n, k) (sym e)
@@ -129,5 +126,5 @@ judges s (bad_value n k r w e) = in_order s ∙ rw (one_layout s n, n, k, r, w) 
 judges s (all_good n k r w e) = in_order s ∙ rw (one_layout s n, n, k, r, w) (sym e)
 
 -- A slice is answered by a reason, or accepted, exactly when the line of the first failing check says so.
-pub exactly : (s : List ℕ) (r : Read) → (read_as s ≡ r → Judged s r) × (Judged s r → read_as s ≡ r)
+pub exactly : (s : List ℕ) (r : Result Saved Refusal) → (read_as s ≡ r → Judged s r) × (Judged s r → read_as s ≡ r)
 exactly s r = (λ e. subst (Judged s) e (judged s), judges s)

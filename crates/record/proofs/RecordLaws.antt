@@ -1,4 +1,5 @@
 -- The saved record's promises: docs/RULES.md, "The saved record".
+use Rattle.std.specs.Prelude.{Result, Ok, Err, ⊤}
 use mathlib.Core.Path.{◌≡◌, refl, sym, ap, ◌∙◌, subst}
 use mathlib.Core.Bool.{true, not, cond, ◌&&◌}
 use mathlib.Core.List.{List, [], ◌∷◌, ◌++◌}
@@ -18,12 +19,6 @@ use Rattle.position.specs.Position.{in_range}
 use Rattle.axis.specs.Kind.{X4, counter_kind}
 use Rattle.axis.specs.Config.{good_config}
 use Rattle.record_axis.specs.declared.saved.Saved.{Saved}
-use Rattle.record.specs.declared.answer.Read.{Read}
-use Rattle.record.specs.declared.answer.Read.TheVariants.{Accepted, Refused}
-use Rattle.record.specs.declared.answer.Tested.{Tested}
-use Rattle.record.specs.declared.answer.Tested.TheVariants.{Accepted as Passes, Refused as Fails}
-use Rattle.record.specs.declared.answer.Written.{Written}
-use Rattle.record.specs.declared.answer.Written.TheVariants.{Refused as Unwritten}
 use Rattle.tagged.specs.Bytes.{AllBytes, number_in, number_from, bytes_of, starts}
 use Rattle.record.specs.Answer.{read_number, read_found, tested_of, tested_number, tested_found}
 use Rattle.record.specs.Opening.{opening}
@@ -40,15 +35,15 @@ use Rattle.record.proofs.RoundTrip.{passed, written_read, read_written}
 use Rattle.record.proofs.WriterLaws.{record_long}
 
 -- What is written within its limits is read back as it was.
-pub read_back : (s : Saved) → within_limits s ≡ true → read_as (record_of s) ≡ Accepted s
+pub read_back : (s : Saved) → within_limits s ≡ true → read_as (record_of s) ≡ Ok s
 read_back s w = written_read s w
 
 -- A slice of bytes that is accepted is the one record of what it says.
-pub one_encoding : (s : List ℕ) (said : Saved) → AllBytes s → read_as s ≡ Accepted said → record_of said ≡ s
+pub one_encoding : (s : List ℕ) (said : Saved) → AllBytes s → read_as s ≡ Ok said → record_of said ≡ s
 one_encoding s said b h = read_written s b said h
 
 -- Two slices of bytes that are accepted and say the same are the same.
-pub one_slice : (s t : List ℕ) (said : Saved) → AllBytes s → AllBytes t → read_as s ≡ Accepted said → read_as t ≡ Accepted said → s ≡ t
+pub one_slice : (s t : List ℕ) (said : Saved) → AllBytes s → AllBytes t → read_as s ≡ Ok said → read_as t ≡ Ok said → s ≡ t
 one_slice s t said b c h k = sym (one_encoding s said b h) ∙ one_encoding t said c k
 
 -- Every record that is written opens with the five bytes and has 34 or 27.
@@ -61,44 +56,44 @@ written_shape s = record { opens = refl; long = record_long s ∙ go (test (coun
     go (no k) = rw k
 
 -- Every slice of bytes that is accepted opens with the five bytes and has 34 or 27.
-pub accepted_shape : (s : List ℕ) (said : Saved) → AllBytes s → read_as s ≡ Accepted said → Shaped said.config.kind s
+pub accepted_shape : (s : List ℕ) (said : Saved) → AllBytes s → read_as s ≡ Ok said → Shaped said.config.kind s
 accepted_shape s said b h = subst (Shaped said.config.kind) (one_encoding s said b h) (written_shape said)
 
 -- What is accepted is within its limits.
-pub accepted_within : (s : List ℕ) (said : Saved) → read_as s ≡ Accepted said → within_limits said ≡ true
+pub accepted_within : (s : List ℕ) (said : Saved) → read_as s ≡ Ok said → within_limits said ≡ true
 accepted_within s said h = (passed s said h).limits
 
 -- What is accepted opens with the five bytes.
-pub accepted_opens : (s : List ℕ) (said : Saved) → read_as s ≡ Accepted said → starts opening s ≡ true
+pub accepted_opens : (s : List ℕ) (said : Saved) → read_as s ≡ Ok said → starts opening s ≡ true
 accepted_opens s said h = (passed s said h).opens
 
 -- ---- the test
 
 -- The test accepts exactly the slices that the reader accepts.
 pub test_accepts : (s : List ℕ) →
-    (tested_as s ≡ Passes → (said : Saved) × (read_as s ≡ Accepted said)) × ((said : Saved) → read_as s ≡ Accepted said → tested_as s ≡ Passes)
+    (tested_as s ≡ Ok tt → (said : Saved) × (read_as s ≡ Ok said)) × ((said : Saved) → read_as s ≡ Ok said → tested_as s ≡ Ok tt)
 test_accepts s = (go (read_as s), λ said h. rw h)
   where
-    go : (r : Read) → tested_of r ≡ Passes → (said : Saved) × (r ≡ Accepted said)
-    go (Accepted said) h = (said, refl)
-    go (Refused r) h = let z : ◌≡◌ {A = ℕ} 0 1 = cc in absurd (omega arith)
+    go : (r : Result Saved Refusal) → tested_of r ≡ Ok tt → (said : Saved) × (r ≡ Ok said)
+    go (Ok said) h = (said, refl)
+    go (Err r) h = let z : ◌≡◌ {A = ℕ} 0 1 = cc in absurd (omega arith)
 
 -- The test refuses exactly the slices that the reader refuses, for the same reason.
 pub test_refuses : (s : List ℕ) (q : Refusal) →
-    (tested_as s ≡ Fails q → read_as s ≡ Refused q) × (read_as s ≡ Refused q → tested_as s ≡ Fails q)
+    (tested_as s ≡ Err q → read_as s ≡ Err q) × (read_as s ≡ Err q → tested_as s ≡ Err q)
 test_refuses s q = (go (read_as s), λ h. rw h)
   where
-    go : (r : Read) → tested_of r ≡ Fails q → r ≡ Refused q
-    go (Accepted said) h = let z : ◌≡◌ {A = ℕ} 0 1 = cc in absurd (omega arith)
-    go (Refused r) h = cc
+    go : (r : Result Saved Refusal) → tested_of r ≡ Err q → r ≡ Err q
+    go (Ok said) h = let z : ◌≡◌ {A = ℕ} 0 1 = cc in absurd (omega arith)
+    go (Err r) h = cc
 
 -- The test's numbers are the reader's.
 pub test_numbers : (s : List ℕ) → (tested_number (tested_as s) ≡ read_number (read_as s)) × (tested_found (tested_as s) ≡ read_found (read_as s))
 test_numbers s = go (read_as s)
   where
-    go : (r : Read) → (tested_number (tested_of r) ≡ read_number r) × (tested_found (tested_of r) ≡ read_found r)
-    go (Accepted said) = (refl, refl)
-    go (Refused r) = (refl, refl)
+    go : (r : Result Saved Refusal) → (tested_number (tested_of r) ≡ read_number r) × (tested_found (tested_of r) ≡ read_found r)
+    go (Ok said) = (refl, refl)
+    go (Err r) = (refl, refl)
 
 -- ---- another layout
 
@@ -117,19 +112,19 @@ other_opening n rest h other = rw (le-leb 5 (length s) (omega arith)) (go (test 
 -- A slice that opens 01 00 02 and then a number other than 1 is refused by LAYOUT with that number, by reader and test,
 -- whatever follows.
 pub layout_refused : (n : ℕ) (rest : List ℕ) → n < 256 ^ 2 → (n ≡ 1 → ⊥) →
-    (read_as (field_bytes layout_tag 2 n ++ rest) ≡ Refused (Layout n)) × (tested_as (field_bytes layout_tag 2 n ++ rest) ≡ Fails (Layout n))
+    (read_as (field_bytes layout_tag 2 n ++ rest) ≡ Err (Layout n)) × (tested_as (field_bytes layout_tag 2 n ++ rest) ≡ Err (Layout n))
 unfolding field_bytes bytes_of
 layout_refused n rest h other =
     let s = field_bytes layout_tag 2 n ++ rest in
-    let found = ap (λ (m : ℕ). Refused (Layout m)) (sym (number_back 2 n h)) in
-    let e = (exactly s (Refused (Layout n))).1 (other_layout (other_opening n rest h other) found) in
+    let found = ap (λ (m : ℕ). Err (Layout m)) (sym (number_back 2 n h)) in
+    let e = (exactly s (Err (Layout n))).1 (other_layout (other_opening n rest h other) found) in
     (e, (test_refuses s (Layout n)).1 e)
 
 -- No other slice is refused by LAYOUT, and the number is the one that stands there.
-pub layout_found_lem : (s : List ℕ) (n : ℕ) → read_as s ≡ Refused (Layout n) → (has_other_layout s ≡ true) × (n ≡ layout_in s)
-layout_found_lem s n h = go ((exactly s (Refused (Layout n))).0 h)
+pub layout_found_lem : (s : List ℕ) (n : ℕ) → read_as s ≡ Err (Layout n) → (has_other_layout s ≡ true) × (n ≡ layout_in s)
+layout_found_lem s n h = go ((exactly s (Err (Layout n))).0 h)
   where
-    go : Judged s (Refused (Layout n)) → (has_other_layout s ≡ true) × (n ≡ layout_in s)
+    go : Judged s (Err (Layout n)) → (has_other_layout s ≡ true) × (n ≡ layout_in s)
     go (other_layout l e) = (l, cc)
     go (bad_nine l m e) = absurd (omega (arith, ap read_number e))
     go (bad_kind m k e) = absurd (omega (arith, ap read_number e))
@@ -146,7 +141,7 @@ unfolding written
 saved_front b s w h = rw (w, le-leb (length (record_of s)) (length b) h) (sets-eq (record_of s) b 0 (rw zero-add h) ∙ rw zero-add)
 
 -- A refused save leaves every byte as it was.
-pub refused_kept : (b : List ℕ) (s : Saved) (r : Refusal) → saved_as (length b) s ≡ Unwritten r → written b s ≡ b
+pub refused_kept : (b : List ℕ) (s : Saved) (r : Refusal) → saved_as (length b) s ≡ Err r → written b s ≡ b
 unfolding saved_as written
 refused_kept b s r h = go (test (within_limits s)) (test (leb (length (record_of s)) (length b)))
   where
@@ -159,15 +154,15 @@ refused_kept b s r h = go (test (within_limits s)) (test (leb (length (record_of
 -- ---- one outcome
 
 -- Reading a slice has one outcome.
-pub read_one : (s : List ℕ) (q r : Read) → q ≡ read_as s → r ≡ read_as s → q ≡ r
+pub read_one : (s : List ℕ) (q r : Result Saved Refusal) → q ≡ read_as s → r ≡ read_as s → q ≡ r
 read_one s q r = one
 
 -- Testing a slice has one outcome.
-pub test_one : (s : List ℕ) (q r : Tested) → q ≡ tested_as s → r ≡ tested_as s → q ≡ r
+pub test_one : (s : List ℕ) (q r : Result ⊤ Refusal) → q ≡ tested_as s → r ≡ tested_as s → q ≡ r
 test_one s q r = one
 
 -- Saving into a buffer has one outcome, answer and buffer.
-pub save_one : (b : List ℕ) (s : Saved) (q r : Written) (c d : List ℕ) → SavedInto b s q c → SavedInto b s r d → (q ≡ r) × (c ≡ d)
+pub save_one : (b : List ℕ) (s : Saved) (q r : Result ℕ Refusal) (c d : List ℕ) → SavedInto b s q c → SavedInto b s r d → (q ≡ r) × (c ≡ d)
 save_one b s q r c d h k = (one h.0 k.0, one h.1 k.1)
 
 -- ---- the saved reading of docs/RULES.md, "Readings to hold it against"
@@ -184,6 +179,6 @@ unfolding record_of axis_bytes front_bytes setting_bytes field_bytes bytes_of
 x4_record = refl
 
 -- A buffer of 33 bytes has no room for it.
-pub x4_room : saved_as 33 x4 ≡ Unwritten Room
+pub x4_room : saved_as 33 x4 ≡ Err Room
 unfolding saved_as within_limits good_config in_range record_of axis_bytes front_bytes setting_bytes field_bytes bytes_of
 x4_room = refl

@@ -1,4 +1,5 @@
 -- A record that was written is read back, and a slice that was accepted is what is written again.
+use Rattle.std.specs.Prelude.{Result, Ok, Err}
 use mathlib.Core.Path.{◌≡◌, refl, sym, ap, ◌∙◌}
 use mathlib.Core.Bool.{Bool, true, false}
 use mathlib.Core.List.{List, [], ◌++◌}
@@ -17,10 +18,6 @@ use Rattle.tagged.specs.Field.{stands_at, field_bytes}
 use Rattle.tagged.proofs.BytesLaws.{starts_is}
 use Rattle.tagged.proofs.FieldLaws.{behind, stands_is, field_back}
 use Rattle.record_axis.specs.declared.saved.Saved.{Saved}
-use Rattle.record.specs.declared.answer.Read.{Read}
-use Rattle.record.specs.declared.answer.Read.TheVariants.{Accepted}
-use Rattle.record_axis.specs.declared.axis_fields.AxisRead.{AxisRead}
-use Rattle.record_axis.specs.declared.axis_fields.AxisRead.TheVariants.{Said, Refused as Unsaid}
 use Rattle.record.specs.Opening.{opening}
 use Rattle.record.specs.Tags.{end_tag}
 use Rattle.record_axis.specs.AxisFields.{axis_at, axis_bytes}
@@ -31,7 +28,7 @@ use Rattle.record_axis.proofs.AxisLaws.{on_field_lem}
 use Rattle.record_axis.proofs.AxisLaws.{axis_back, axis_again}
 
 -- What is written is read.
-pub written_read : (s : Saved) → within_limits s ≡ true → read_as (record_of s) ≡ Accepted s
+pub written_read : (s : Saved) → within_limits s ≡ true → read_as (record_of s) ≡ Ok s
 unfolding read_as ended_at record_of starts field_bytes bytes_of
 written_read s w =
     let end = field_bytes end_tag 0 0 in
@@ -44,7 +41,7 @@ written_read s w =
 -- ---- what is read is written
 
 -- A check that a record passed.
-passed_if : (t : Bool) (r : Refusal) {x : Read} {said : Saved} → check t r x ≡ Accepted said → (t ≡ true) × (x ≡ Accepted said)
+passed_if : (t : Bool) (r : Refusal) {x : Result Saved Refusal} {said : Saved} → check t r x ≡ Ok said → (t ≡ true) × (x ≡ Ok said)
 passed_if true r e = (refl, e)
 passed_if false r e = let z : ◌≡◌ {A = ℕ} 0 1 = cc in absurd (omega arith)
 
@@ -54,20 +51,20 @@ pub record Passed (s : List ℕ) (said : Saved) : Type 0 where
   pub bits : ℕ
   pub next : ℕ
   pub opens : starts opening s ≡ true
-  pub axis : axis_at s 5 ≡ Said config bits next
+  pub axis : axis_at s 5 ≡ Ok (config, bits, next)
   pub ends : stands_at s next end_tag 0 ≡ true
   pub whole : eqb (length s) (next + 3 + 0) ≡ true
   pub limits : within_limits said ≡ true
   pub says : said ≡ saying config bits
 
-pub passed : (s : List ℕ) (said : Saved) → read_as s ≡ Accepted said → Passed s said
+pub passed : (s : List ℕ) (said : Saved) → read_as s ≡ Ok said → Passed s said
 unfolding read_as ended_at
 passed s said h = let o = passed_if (starts opening s) (layout_refusal s) h in go (axis_at s 5) refl o.0 o.1
   where
-    go : (x : AxisRead) → axis_at s 5 ≡ x → starts opening s ≡ true →
-        on_axis x (λ c bits at. ended_at s at c bits) ≡ Accepted said → Passed s said
-    go (Unsaid r) e o h = let z : ◌≡◌ {A = ℕ} 0 1 = cc in absurd (omega arith)
-    go (Said c bits next) e o h =
+    go : (x : Result (Config × ℕ × ℕ) Refusal) → axis_at s 5 ≡ x → starts opening s ≡ true →
+        on_axis x (λ c bits at. ended_at s at c bits) ≡ Ok said → Passed s said
+    go (Err r) e o h = let z : ◌≡◌ {A = ℕ} 0 1 = cc in absurd (omega arith)
+    go (Ok (c, bits, next)) e o h =
         let f = passed_if (stands_at s next end_tag 0) Record (rw on_field_lem at h) in
         let n = passed_if (eqb (length s) (next + 3 + 0)) Record f.1 in
         let l = passed_if (within_limits (saying c bits)) Value n.1 in
@@ -85,7 +82,7 @@ passed s said h = let o = passed_if (starts opening s) (layout_refusal s) h in g
           says = q;
         }
 
-pub read_written : (s : List ℕ) → AllBytes s → (said : Saved) → read_as s ≡ Accepted said → record_of said ≡ s
+pub read_written : (s : List ℕ) → AllBytes s → (said : Saved) → read_as s ≡ Ok said → record_of said ≡ s
 unfolding record_of field_bytes bytes_of
 read_written s b said h =
     let p = passed s said h in

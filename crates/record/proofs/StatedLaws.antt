@@ -1,4 +1,5 @@
 -- What docs/RULES.md states, computed to its end: "The saved record", and the numbers of its answers.
+use Rattle.std.specs.Prelude.{Ok, Err}
 use mathlib.Core.Path.{◌≡◌, refl}
 use mathlib.Core.List.{List, [], ◌∷◌, map}
 use Prim.Native.Nat.{ℕ}
@@ -11,9 +12,6 @@ use Rattle.tagged.specs.Field.{field_at, field_bytes}
 use Rattle.record_axis.specs.declared.saved.Saved.{Saved}
 use Rattle.record_axis.specs.AxisFields.{counter_at, sampled_at, axis_at, front_bytes, setting_bytes, axis_bytes}
 use Rattle.record_axis.specs.Limits.{within_limits}
-use Rattle.record.specs.declared.answer.Read.TheVariants.{Accepted, Refused}
-use Rattle.record.specs.declared.answer.Tested.TheVariants.{Accepted as Passes, Refused as Fails}
-use Rattle.record.specs.declared.answer.Written.TheVariants.{Bytes, Refused as Unwritten}
 use Rattle.record.specs.Answer.{read_number, read_found, read_saved, tested_number, tested_found}
 use Rattle.record.specs.Answer.{written_number, written_found, written_bytes}
 use Rattle.record.specs.Record.{layout_refusal, ended_at, read_as, record_of, saved_as}
@@ -51,7 +49,7 @@ counter_record = refl
 pub record_read :
     map read_as
     (sampled_bytes 1 255 1 127 [] ∷ sampled_bytes 2 255 8 127 [] ∷ sampled_bytes 4 255 3 127 [] ∷ counter_bytes 2 ∷ counter_bytes 32 ∷ [])
-    ≡ map Accepted (sampled 1 1 ∷ sampled 2 8 ∷ sampled 4 3 ∷ counter 2 ∷ counter 32 ∷ [])
+    ≡ map Ok (sampled 1 1 ∷ sampled 2 8 ∷ sampled 4 3 ∷ counter 2 ∷ counter 32 ∷ [])
 unfolding number_from starts field_at good_config in_range counter_at sampled_at axis_at within_limits layout_refusal ended_at read_as
 record_read = refl
 
@@ -66,7 +64,7 @@ pub other_layouts :
     ∷ (2 ∷ 0 ∷ 2 ∷ 0 ∷ 2 ∷ [])
     ∷ (1 ∷ 0 ∷ 3 ∷ 0 ∷ 2 ∷ [])
     ∷ [])
-    ≡ map Refused (Layout 2 ∷ Layout 513 ∷ Record ∷ Record ∷ Record ∷ [])
+    ≡ map Err (Layout 2 ∷ Layout 513 ∷ Record ∷ Record ∷ Record ∷ [])
 unfolding number_from starts field_at counter_at sampled_at axis_at layout_refusal ended_at read_as
 other_layouts = refl
 
@@ -84,14 +82,14 @@ pub then_values :
     ∷ sampled_bytes 4 255 9 127 []
     ∷ counter_bytes 33
     ∷ [])
-    ≡ map Refused (Record ∷ Value ∷ Record ∷ Value ∷ Record ∷ Record ∷ Record ∷ Value ∷ Value ∷ Value ∷ [])
+    ≡ map Err (Record ∷ Value ∷ Record ∷ Value ∷ Record ∷ Record ∷ Record ∷ Value ∷ Value ∷ Value ∷ [])
 unfolding number_from starts field_at good_config in_range counter_at sampled_at axis_at within_limits layout_refusal ended_at read_as
 then_values = refl
 
 -- A save outside its limits is VALUE, whatever the room; within them it needs 34 or 27 bytes.
 pub save_first :
     saved_as 0 (sampled 4 9) ∷ saved_as 34 (sampled 4 3) ∷ saved_as 26 (counter 12) ∷ saved_as 27 (counter 12) ∷ []
-    ≡ Unwritten Value ∷ Bytes 34 ∷ Unwritten Room ∷ Bytes 27 ∷ []
+    ≡ Err Value ∷ Ok 34 ∷ Err Room ∷ Ok 27 ∷ []
 unfolding bytes_of field_bytes good_config in_range within_limits front_bytes setting_bytes axis_bytes record_of saved_as
 save_first = refl
 
@@ -99,13 +97,13 @@ save_first = refl
 
 -- What is done shows the refusal 0; a refusal shows its own number, the layout number that it found, and 0 for every other value.
 pub shown : (s : Saved) (n m : ℕ) →
-    (map read_number (Accepted s ∷ Refused Value ∷ Refused (Layout n) ∷ []) ≡ 0 ∷ 6 ∷ 11 ∷ [])
-    × (map read_found (Accepted s ∷ Refused Value ∷ Refused (Layout n) ∷ []) ≡ 0 ∷ 0 ∷ n ∷ [])
-    × (map read_saved (Accepted s ∷ Refused Value ∷ [])
+    (map read_number (Ok s ∷ Err Value ∷ Err (Layout n) ∷ []) ≡ 0 ∷ 6 ∷ 11 ∷ [])
+    × (map read_found (Ok s ∷ Err Value ∷ Err (Layout n) ∷ []) ≡ 0 ∷ 0 ∷ n ∷ [])
+    × (map read_saved (Ok s ∷ Err Value ∷ [])
     ≡ s ∷ record { config = record { kind = 0; depth = 0; width = 0; turn = 0 }; position = pos 0 } ∷ [])
-    × (map tested_number (Passes ∷ Fails Value ∷ Fails (Layout n) ∷ []) ≡ 0 ∷ 6 ∷ 11 ∷ [])
-    × (map tested_found (Passes ∷ Fails Value ∷ Fails (Layout n) ∷ []) ≡ 0 ∷ 0 ∷ n ∷ [])
-    × (map written_number (Bytes m ∷ Unwritten Room ∷ []) ≡ 0 ∷ 10 ∷ [])
-    × (map written_found (Bytes m ∷ Unwritten Room ∷ Unwritten (Layout n) ∷ []) ≡ 0 ∷ 0 ∷ n ∷ [])
-    × (map written_bytes (Bytes m ∷ Unwritten Room ∷ []) ≡ m ∷ 0 ∷ [])
+    × (map tested_number ((Ok tt) ∷ Err Value ∷ Err (Layout n) ∷ []) ≡ 0 ∷ 6 ∷ 11 ∷ [])
+    × (map tested_found ((Ok tt) ∷ Err Value ∷ Err (Layout n) ∷ []) ≡ 0 ∷ 0 ∷ n ∷ [])
+    × (map written_number (Ok m ∷ Err Room ∷ []) ≡ 0 ∷ 10 ∷ [])
+    × (map written_found (Ok m ∷ Err Room ∷ Err (Layout n) ∷ []) ≡ 0 ∷ 0 ∷ n ∷ [])
+    × (map written_bytes (Ok m ∷ Err Room ∷ []) ≡ m ∷ 0 ∷ [])
 shown s n m = (refl, refl, refl, refl, refl, refl, refl, refl)

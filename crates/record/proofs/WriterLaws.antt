@@ -1,4 +1,5 @@
 -- The laws of a save: what it answers and leaves, by its checks.
+use Rattle.std.specs.Prelude.{Ok, Err}
 use mathlib.Core.Path.{◌≡◌}
 use mathlib.Core.Bool.{true, false}
 use mathlib.Core.List.{List}
@@ -16,7 +17,6 @@ use Rattle.tagged.specs.Store.{Puts}
 use Rattle.tagged.specs.Field.{field_bytes}
 use Rattle.tagged.proofs.StoreLaws.{puts_then}
 use Rattle.record_axis.specs.declared.saved.Saved.{Saved}
-use Rattle.record.specs.declared.answer.Written.TheVariants.{Bytes, Refused}
 use Rattle.record.specs.Opening.{opening}
 use Rattle.record_axis.specs.Tags.{depth_tag, width_tag, turn_tag}
 use Rattle.record.specs.Tags.{end_tag}
@@ -51,19 +51,19 @@ record_long s = simp length-append (omega (arith, axis_long s))
 
 module _ (b : List ℕ) (s : Saved) where
   -- Outside the limits.
-  pub outside : within_limits s ≡ false → SavedInto b s (Refused Value) b
+  pub outside : within_limits s ≡ false → SavedInto b s (Err Value) b
   unfolding saved_as written
   outside w = (rw w, rw w)
 
   module _ (w : within_limits s ≡ true) where
     -- Without room.
-    pub no_room : length b < 8 + axis_length s.config.kind → SavedInto b s (Refused Room) b
+    pub no_room : length b < 8 + axis_length s.config.kind → SavedInto b s (Err Room) b
     unfolding saved_as written
     no_room h = let l = lt-leb (length (record_of s)) (length b) (rw (record_long s) h) in (rw (w, l), rw (w, l))
 
     -- With room.
     pub wrote : {n : ℕ} {last : List ℕ} → 8 + axis_length s.config.kind ≤ length b → Puts (record_of s) b 0 last n →
-        SavedInto b s (Bytes n) last
+        SavedInto b s (Ok n) last
     unfolding saved_as written
     wrote h p =
         let l = le-leb (length (record_of s)) (length b) (rw (record_long s) h) in

@@ -1,11 +1,9 @@
 -- The checks of a record, each by itself, and the answer that the first failing one gives: docs/RULES.md, "The saved record", and the lines
 -- VALUE, LAYOUT and RECORD of "Reasons for saying no".
-use Rattle.std.specs.Prelude.{◌≡◌, Bool, true, false, not, cond, ◌&&◌, List, ℕ, eqb, length}
+use Rattle.std.specs.Prelude.{◌≡◌, Bool, true, false, not, cond, ◌&&◌, List, ℕ, eqb, length, Result, Ok, Err}
 use Rattle.refusal.specs.declared.Refusal.TheVariants.{Value, Layout, Record}
 use Rattle.axis.specs.Kind.{counter_kind}
 use Rattle.record_axis.specs.declared.saved.Saved.{Saved}
-use Rattle.record.specs.declared.answer.Read.{Read}
-use Rattle.record.specs.declared.answer.Read.TheVariants.{Accepted, Refused}
 use Rattle.tagged.specs.Bytes.{number_at, starts}
 use Rattle.record.specs.Opening.{opening}
 use Rattle.record_axis.specs.Tags.{kind_tag, position_tag, depth_tag, width_tag, turn_tag}
@@ -13,6 +11,7 @@ use Rattle.record.specs.Tags.{layout_tag, end_tag}
 use Rattle.record_axis.specs.AxisFields.{known_kind, counter_as, sampled_as}
 use Rattle.record_axis.specs.Limits.{saying, within_limits}
 use Rattle.tagged.specs.Field.{stands_at}
+use Rattle.refusal.specs.declared.Refusal.{Refusal}
 
 -- Whether a slice opens 01 00 02 with two more bytes that are not 00 01.
 unfoldable pub has_other_layout : List ℕ → Bool
@@ -47,12 +46,12 @@ said_in s =
     (number_at s 12 8)
 
 -- The answer to a slice, a line for each check that can be the first to fail and one for none.
-pub data Judged (s : List ℕ) (r : Read) : Type 0 where
-  other_layout : has_other_layout s ≡ true → r ≡ Refused (Layout (layout_in s)) → Judged s r
-  bad_nine : has_other_layout s ≡ false → nine_stand s ≡ false → r ≡ Refused Record → Judged s r
-  bad_kind : nine_stand s ≡ true → known_kind (kind_in s) ≡ false → r ≡ Refused Value → Judged s r
-  bad_rest : nine_stand s ≡ true → known_kind (kind_in s) ≡ true → rest_stands s ≡ false → r ≡ Refused Record → Judged s r
-  bad_value : nine_stand s ≡ true → known_kind (kind_in s) ≡ true → rest_stands s ≡ true → within_limits (said_in s) ≡ false → r ≡ Refused Value →
+pub data Judged (s : List ℕ) (r : Result Saved Refusal) : Type 0 where
+  other_layout : has_other_layout s ≡ true → r ≡ Err (Layout (layout_in s)) → Judged s r
+  bad_nine : has_other_layout s ≡ false → nine_stand s ≡ false → r ≡ Err Record → Judged s r
+  bad_kind : nine_stand s ≡ true → known_kind (kind_in s) ≡ false → r ≡ Err Value → Judged s r
+  bad_rest : nine_stand s ≡ true → known_kind (kind_in s) ≡ true → rest_stands s ≡ false → r ≡ Err Record → Judged s r
+  bad_value : nine_stand s ≡ true → known_kind (kind_in s) ≡ true → rest_stands s ≡ true → within_limits (said_in s) ≡ false → r ≡ Err Value →
       Judged s r
   all_good : nine_stand s ≡ true → known_kind (kind_in s) ≡ true → rest_stands s ≡ true → within_limits (said_in s) ≡ true →
-      r ≡ Accepted (said_in s) → Judged s r
+      r ≡ Ok (said_in s) → Judged s r

@@ -1,4 +1,5 @@
 -- The laws of one axis's fields at any place: what is written there is read there, and what is read there is what would be written.
+use Rattle.std.specs.Prelude.{Result, Ok, Err, Some, None}
 use mathlib.Core.Path.{◌≡◌, refl, sym, ap, ◌∙◌}
 use mathlib.Core.Bool.{Bool, true, false, cond}
 use mathlib.Core.List.{List, ◌++◌, append_assoc}
@@ -16,14 +17,12 @@ use Rattle.refusal.specs.declared.Refusal.{Refusal}
 use Rattle.refusal.specs.declared.Refusal.TheVariants.{Value as VALUE, Record}
 use Rattle.axis.specs.Kind.{COUNTER, counter_kind}
 use Rattle.axis.specs.declared.config.Config.{Config}
-use Rattle.tagged.specs.declared.field.Field.TheVariants.{Value, Bad}
 use Rattle.tagged.specs.Bytes.{AllBytes, number_at, bytes_of}
 use Rattle.tagged.specs.Field.{stands_at, field_at, field_bytes}
 use Rattle.tagged.proofs.BytesLaws.{number_below}
+use Rattle.tagged.proofs.AnswerLaws.{ok_three}
 use Rattle.tagged.proofs.FieldLaws.{field_back, stands_is}
 use Rattle.record_axis.specs.declared.saved.Saved.{Saved}
-use Rattle.record_axis.specs.declared.axis_fields.AxisRead.{AxisRead}
-use Rattle.record_axis.specs.declared.axis_fields.AxisRead.TheVariants.{Said, Refused}
 use Rattle.record_axis.specs.Tags.{kind_tag, position_tag, depth_tag, width_tag, turn_tag}
 use Rattle.record_axis.specs.AxisFields.{on_field, known_kind, counter_as, sampled_as, counter_at, sampled_at, axis_at}
 use Rattle.record_axis.specs.AxisFields.{front_bytes, setting_bytes, axis_bytes, axis_length}
@@ -36,7 +35,7 @@ pub on_field_lem : {A : Type 0} (s : List ℕ) (at tag n : ℕ) (r : A) (k : ℕ
 unfolding field_at
 on_field_lem s at tag n r k = go (stands_at s at tag n)
   where
-    go : (t : Bool) → on_field r (cond t (Value (number_at s (at + 3) n) (at + 3 + n)) Bad) k
+    go : (t : Bool) → on_field r (cond t (Some (number_at s (at + 3) n, at + 3 + n)) None) k
         ≡ cond t (k (number_at s (at + 3) n) (at + 3 + n)) r
     go true = refl
     go false = refl
@@ -74,7 +73,7 @@ module _ (s : List ℕ) (x : Saved) (at : ℕ) (w : within_limits x ≡ true) (r
   next = at + length (axis_bytes x)
 
   front : c.kind < 256 →
-      (field_at s at kind_tag 1 ≡ Value c.kind (at + 3 + 1)) × (field_at s (at + 3 + 1) position_tag 8 ≡ Value bits (at + 3 + 1 + 3 + 8))
+      (field_at s at kind_tag 1 ≡ Some (c.kind, at + 3 + 1)) × (field_at s (at + 3 + 1) position_tag 8 ≡ Some (bits, at + 3 + 1 + 3 + 8))
       × (drop (at + 3 + 1 + 3 + 8) s ≡ setting_bytes c ++ rest)
   unfolding axis_bytes front_bytes
   front h =
@@ -82,14 +81,14 @@ module _ (s : List ℕ) (x : Saved) (at : ℕ) (w : within_limits x ≡ true) (r
       let q = field_back s (at + 3 + 1) position_tag 8 bits _ k.1 (lit< tt) (Fits-of_z {w = w64} (within_position x w)).fits in
       (k.0, q.0, q.1)
 
-  by : SoundConfig c → axis_at s at ≡ Said c bits next
+  by : SoundConfig c → axis_at s at ≡ Ok (c, bits, next)
   unfolding axis_at counter_at sampled_at setting_bytes
   by (counter ck hw d t) =
       let f = front (omega (arith, eqb-true c.kind COUNTER ck)) in
       let u = field_back s (at + 3 + 1 + 3 + 8) width_tag 1 c.width rest (f.2 ∙ rw ck) (lit< tt) (omega arith) in
       let n : length (axis_bytes x) ≡ 19 = axis_long x ∙ rw ck in
       let place : at + 3 + 1 + 3 + 8 + 3 + 1 ≡ next = omega arith in
-      rw (f.0, known_counter c.kind ck, f.1, ck, u.0, place) (ap (λ (z : Config). Said z bits next) (same c d refl t))
+      rw (f.0, known_counter c.kind ck, f.1, ck, u.0, place) (ap (λ (z : Config). Ok (z, bits, next)) (same c d refl t))
   by (sampled sk hd v ht) =
       let k = sampled_kind_lem c.kind sk in
       let f = front k.byte in
@@ -99,15 +98,15 @@ module _ (s : List ℕ) (x : Saved) (at : ℕ) (w : within_limits x ≡ true) (r
       let y = field_back s (at + 3 + 1 + 3 + 8 + 3 + 1) turn_tag 4 c.turn rest u.1 (lit< tt) ht in
       let n : length (axis_bytes x) ≡ 26 = axis_long x ∙ rw k.other in
       let place : at + 3 + 1 + 3 + 8 + 3 + 1 + 3 + 4 ≡ next = omega arith in
-      rw (f.0, sk, f.1, k.other, u.0, y.0, place) (ap (λ (z : Config). Said z bits next) (same c refl v refl))
+      rw (f.0, sk, f.1, k.other, u.0, y.0, place) (ap (λ (z : Config). Ok (z, bits, next)) (same c refl v refl))
 
   -- An axis's fields that were written at a place are read there, and the next field begins behind them.
-  pub axis_back : axis_at s at ≡ Said c bits next
+  pub axis_back : axis_at s at ≡ Ok (c, bits, next)
   axis_back = by (within_config x w)
 
 -- So they are read between any bytes before and any bytes after.
 pub axis_between : (pre post : List ℕ) (s : Saved) → within_limits s ≡ true →
-    axis_at (pre ++ (axis_bytes s ++ post)) (length pre) ≡ Said s.config (of_z w64 s.position) (length pre + length (axis_bytes s))
+    axis_at (pre ++ (axis_bytes s ++ post)) (length pre) ≡ Ok (s.config, of_z w64 s.position, length pre + length (axis_bytes s))
 axis_between pre post s w = axis_back (pre ++ (axis_bytes s ++ post)) s (length pre) w post (drop-append_seam pre (axis_bytes s ++ post))
 
 -- What is read there says what was written.
@@ -117,8 +116,8 @@ said_back s w = rw (to_z-of_z {w = w64} (within_position s w))
 -- ---- what is read is written
 
 -- A check that an axis's fields passed.
-pub said_if : (t : Bool) (r : Refusal) {x : AxisRead} {c : Config} {bits next : ℕ} → cond t x (Refused r) ≡ Said c bits next →
-    (t ≡ true) × (x ≡ Said c bits next)
+pub said_if : (t : Bool) (r : Refusal) {x : Result (Config × ℕ × ℕ) Refusal} {c : Config} {bits next : ℕ} → cond t x (Err r) ≡ Ok (c, bits, next) →
+    (t ≡ true) × (x ≡ Ok (c, bits, next))
 said_if true r e = (refl, e)
 said_if false r e = let z : ◌≡◌ {A = ℕ} 0 1 = cc in absurd (omega arith)
 
@@ -129,34 +128,34 @@ record Settings (s : List ℕ) (at kind bits : ℕ) (c : Config) (said next : �
   stands : drop at s ≡ setting_bytes c ++ drop next s
 
 module _ (s : List ℕ) (b : AllBytes s) (at kind bits : ℕ) (c : Config) (said next : ℕ) where
-  counter_again : counter_kind kind ≡ true → counter_at s at kind bits ≡ Said c said next → Settings s at kind bits c said next
+  counter_again : counter_kind kind ≡ true → counter_at s at kind bits ≡ Ok (c, said, next) → Settings s at kind bits c said next
   unfolding counter_at setting_bytes
   counter_again k h =
       let u = said_if (stands_at s at width_tag 1) Record (rw on_field_lem at h) in
-      let v = u.1 in
-      let e : counter_as kind (number_at s (at + 3) 1) ≡ c = cc in
-      let n : at + 3 + 1 ≡ next = cc in
-      record { is_kind = ap (λ (x : Config). x.kind) e; is_bits = cc; stands = rw (← e, ← n, k) (stands_is s at width_tag 1 b u.0) }
+      let v = ok_three u.1 in
+      let e : counter_as kind (number_at s (at + 3) 1) ≡ c = v.0 in
+      let n : at + 3 + 1 ≡ next = v.2 in
+      record { is_kind = ap (λ (x : Config). x.kind) e; is_bits = v.1; stands = rw (← e, ← n, k) (stands_is s at width_tag 1 b u.0) }
 
-  sampled_again : counter_kind kind ≡ false → sampled_at s at kind bits ≡ Said c said next → Settings s at kind bits c said next
+  sampled_again : counter_kind kind ≡ false → sampled_at s at kind bits ≡ Ok (c, said, next) → Settings s at kind bits c said next
   unfolding sampled_at setting_bytes
   sampled_again k h =
       let u = said_if (stands_at s at depth_tag 1) Record (rw on_field_lem at h) in
       let x = said_if (stands_at s (at + 3 + 1) turn_tag 4) Record (rw on_field_lem at u.1) in
-      let v = x.1 in
+      let v = ok_three x.1 in
       let depth = field_bytes depth_tag 1 (number_at s (at + 3) 1) in
       let turn = field_bytes turn_tag 4 (number_at s (at + 3 + 1 + 3) 4) in
-      let e : sampled_as kind (number_at s (at + 3) 1) (number_at s (at + 3 + 1 + 3) 4) ≡ c = cc in
-      let n : at + 3 + 1 + 3 + 4 ≡ next = cc in
+      let e : sampled_as kind (number_at s (at + 3) 1) (number_at s (at + 3 + 1 + 3) 4) ≡ c = v.0 in
+      let n : at + 3 + 1 + 3 + 4 ≡ next = v.2 in
       let both = stands_is s at depth_tag 1 b u.0 ∙ ap (λ (r : List ℕ). depth ++ r) (stands_is s (at + 3 + 1) turn_tag 4 b x.0) in
       record {
         is_kind = ap (λ (x : Config). x.kind) e;
-        is_bits = cc;
+        is_bits = v.1;
         stands = rw (← e, ← n, k) (both ∙ sym (append_assoc depth turn (drop (at + 3 + 1 + 3 + 4) s)));
       }
 
 -- An axis's fields that were read at a place are those that would be written there.
-pub axis_again : (s : List ℕ) (at : ℕ) (c : Config) (bits next : ℕ) → AllBytes s → axis_at s at ≡ Said c bits next →
+pub axis_again : (s : List ℕ) (at : ℕ) (c : Config) (bits next : ℕ) → AllBytes s → axis_at s at ≡ Ok (c, bits, next) →
     drop at s ≡ axis_bytes (saying c bits) ++ drop next s
 unfolding axis_at axis_bytes front_bytes
 axis_again s at c bits next b h =
@@ -182,7 +181,7 @@ axis_again s at c bits next b h =
     found = number_at s (at + 3 + 1 + 3) 8
 
     go : Decided (counter_kind kind) →
-        cond (counter_kind kind) (counter_at s place kind found) (sampled_at s place kind found) ≡ Said c bits next →
+        cond (counter_kind kind) (counter_at s place kind found) (sampled_at s place kind found) ≡ Ok (c, bits, next) →
         Settings s place kind found c bits next
     go (yes k) e = counter_again s b place kind found c bits next k (rw k at e)
     go (no k) e = sampled_again s b place kind found c bits next k (rw k at e)

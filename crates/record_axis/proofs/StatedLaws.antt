@@ -1,4 +1,5 @@
 -- What docs/RULES.md states, computed to its end: "The saved record", the fields of one axis.
+use Rattle.std.specs.Prelude.{Ok, Err}
 use mathlib.Core.Path.{◌≡◌, refl}
 use mathlib.Core.List.{List, [], ◌∷◌, ◌++◌, map}
 use Prim.Native.Nat.{ℕ, ◌-◌, ◌^◌}
@@ -7,7 +8,6 @@ use Rattle.refusal.specs.declared.Refusal.TheVariants.{Value, Record}
 use Rattle.axis.specs.declared.config.Config.{Config}
 use Rattle.tagged.specs.Bytes.{number_from, bytes_of}
 use Rattle.tagged.specs.Field.{field_at, field_bytes}
-use Rattle.record_axis.specs.declared.axis_fields.AxisRead.TheVariants.{Said, Refused}
 use Rattle.record_axis.specs.AxisFields.{counter_at, sampled_at, axis_at, front_bytes, setting_bytes, axis_bytes}
 use Rattle.record_axis.specs.Limits.{saying}
 
@@ -43,8 +43,8 @@ axis_written = (refl, refl)
 
 -- Read between other bytes, those bytes say each again, with the position's 64 bits, which say -2, and the place behind them.
 pub axis_read :
-    (axis_at (9 ∷ (x4_bytes ++ (9 ∷ []))) 1 ≡ Said x4 (2 ^ 64 - 2) 27)
-    × (axis_at (9 ∷ (counter_bytes ++ (9 ∷ []))) 1 ≡ Said counter (2 ^ 64 - 2) 20)
+    (axis_at (9 ∷ (x4_bytes ++ (9 ∷ []))) 1 ≡ Ok (x4, 2 ^ 64 - 2, 27))
+    × (axis_at (9 ∷ (counter_bytes ++ (9 ∷ []))) 1 ≡ Ok (counter, 2 ^ 64 - 2, 20))
     × (saying x4 (2 ^ 64 - 2) ≡ record { config = x4; position = negsuc 1 })
 unfolding number_from field_at counter_at sampled_at axis_at
 axis_read = (refl, refl, refl)
@@ -52,6 +52,6 @@ axis_read = (refl, refl, refl)
 -- A kind field alone is VALUE where its kind is none of the four, and else RECORD.
 pub kind_first :
     map (λ (kind : ℕ). axis_at (2 ∷ 0 ∷ 1 ∷ kind ∷ []) 0) (0 ∷ 1 ∷ 2 ∷ 3 ∷ 4 ∷ 5 ∷ 6 ∷ 7 ∷ 8 ∷ 9 ∷ [])
-    ≡ map Refused (Value ∷ Record ∷ Record ∷ Value ∷ Record ∷ Value ∷ Value ∷ Value ∷ Record ∷ Value ∷ [])
+    ≡ map Err (Value ∷ Record ∷ Record ∷ Value ∷ Record ∷ Value ∷ Value ∷ Value ∷ Record ∷ Value ∷ [])
 unfolding number_from field_at counter_at sampled_at axis_at
 kind_first = refl

@@ -1,24 +1,21 @@
 -- The fields of one axis, 02 to 06, at any place of a slice or a buffer: docs/RULES.md, "The saved record".
-use Rattle.std.specs.Prelude.{Bool, cond, ◌||◌, List, ◌++◌, ℕ}
+use Rattle.std.specs.Prelude.{Bool, cond, ◌||◌, List, ◌++◌, ℕ, Result, Option, Ok, Err, Some, None}
 use Rattle.std.specs.Int.{w64}
 use Rattle.std.proofs.Common.{of_z}
 use Rattle.refusal.specs.declared.Refusal.TheVariants.{Value, Record}
 use Rattle.axis.specs.Kind.{sampled_kind, counter_kind}
 use Rattle.axis.specs.declared.config.Config.{Config}
-use Rattle.tagged.specs.declared.field.Field.{Field}
-use Rattle.tagged.specs.declared.field.Field.TheVariants.{Value as Of, Bad}
 use Rattle.tagged.specs.Field.{field_at, field_bytes}
 use Rattle.record_axis.specs.declared.saved.Saved.{Saved}
-use Rattle.record_axis.specs.declared.axis_fields.AxisRead.{AxisRead}
-use Rattle.record_axis.specs.declared.axis_fields.AxisRead.TheVariants.{Said, Refused}
 use Rattle.record_axis.specs.Tags.{kind_tag, position_tag, depth_tag, width_tag, turn_tag}
+use Rattle.refusal.specs.declared.Refusal.{Refusal}
 
 -- ---- reading
 
 -- A field's answer: on with its value and the next place, or a refusal at once.
-abbrev pub on_field : {A : Type 0} → A → Field → (ℕ → ℕ → A) → A
-on_field refused (Of v next) k = k v next
-on_field refused Bad k = refused
+abbrev pub on_field : {A : Type 0} → A → Option (ℕ × ℕ) → (ℕ → ℕ → A) → A
+on_field refused (Some (v, next)) k = k v next
+on_field refused None k = refused
 
 -- Whether a number is one of the four kinds.
 abbrev pub known_kind : ℕ → Bool
@@ -33,27 +30,27 @@ abbrev pub sampled_as : ℕ → ℕ → ℕ → Config
 sampled_as kind depth turn = record { kind = kind; depth = depth; width = 0; turn = turn }
 
 -- The fields of a counter after its position.
-unfoldable pub counter_at : List ℕ → ℕ → ℕ → ℕ → AxisRead
+unfoldable pub counter_at : List ℕ → ℕ → ℕ → ℕ → Result (Config × ℕ × ℕ) Refusal
 counter_at s at kind bits =
-    on_field (Refused Record) (field_at s at width_tag 1) (λ width at.
-    Said (counter_as kind width) bits at)
+    on_field (Err Record) (field_at s at width_tag 1) (λ width at.
+    Ok (counter_as kind width, bits, at))
 
 -- The fields of a sampled axis after its position.
-unfoldable pub sampled_at : List ℕ → ℕ → ℕ → ℕ → AxisRead
+unfoldable pub sampled_at : List ℕ → ℕ → ℕ → ℕ → Result (Config × ℕ × ℕ) Refusal
 sampled_at s at kind bits =
-    on_field (Refused Record) (field_at s at depth_tag 1) (λ depth at.
-    on_field (Refused Record) (field_at s at turn_tag 4) (λ turn at.
-    Said (sampled_as kind depth turn) bits at))
+    on_field (Err Record) (field_at s at depth_tag 1) (λ depth at.
+    on_field (Err Record) (field_at s at turn_tag 4) (λ turn at.
+    Ok (sampled_as kind depth turn, bits, at)))
 
 -- The fields of an axis from a place on: the configuration and the 64 bits of the position that they say, whatever their limits, and
 -- where the next field begins; or RECORD for the first field that does not stand there, VALUE for a kind that is none.
-unfoldable pub axis_at : List ℕ → ℕ → AxisRead
+unfoldable pub axis_at : List ℕ → ℕ → Result (Config × ℕ × ℕ) Refusal
 axis_at s at =
-    on_field (Refused Record) (field_at s at kind_tag 1) (λ kind at.
+    on_field (Err Record) (field_at s at kind_tag 1) (λ kind at.
     cond (known_kind kind)
-    (on_field (Refused Record) (field_at s at position_tag 8) (λ bits at.
+    (on_field (Err Record) (field_at s at position_tag 8) (λ bits at.
     cond (counter_kind kind) (counter_at s at kind bits) (sampled_at s at kind bits)))
-    (Refused Value))
+    (Err Value))
 
 -- ---- writing
 

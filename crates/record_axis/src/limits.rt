@@ -3,12 +3,12 @@ ghost use Rattle.std.specs.Prelude.{◌≡◌};
 ghost use Rattle.record_axis.specs.Limits.{within_limits};
 
 use crate::saved::Saved;
+use axis::config::Setting;
 
 // Whether a configuration and a position are within their limits.
+#[tactic(auto, unfolding(crate::specs::Limits::within_limits))]
 pub fn is_within(saved: Saved) -> bool
     ensures { result ≡ within_limits saved }
 {
-    let c = saved.config;
-    axis::config::is_good(c.kind as u64, c.depth as u64, c.width as u64, c.turn as u64)
-        & position::in_range(saved.position)
+    Setting::from(saved.config).is_good() & position::in_range(saved.position)
 }

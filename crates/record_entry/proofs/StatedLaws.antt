@@ -1,4 +1,5 @@
 -- What docs/RULES.md states, computed to its end: "The record of a whole table", one axis of it.
+use Rattle.std.specs.Prelude.{Result, Ok, Err}
 use mathlib.Core.Path.{◌≡◌, refl}
 use mathlib.Core.List.{List, [], ◌∷◌, map}
 use Prim.Native.Nat.{ℕ}
@@ -10,9 +11,8 @@ use Rattle.tagged.specs.Bytes.{number_from, bytes_of}
 use Rattle.tagged.specs.Field.{field_at, field_bytes}
 use Rattle.record_axis.specs.AxisFields.{front_bytes, setting_bytes, axis_bytes}
 use Rattle.record_entry.specs.declared.entry.Entry.{Entry}
-use Rattle.record_entry.specs.declared.reader.EntryRead.{EntryRead}
-use Rattle.record_entry.specs.declared.reader.EntryRead.TheVariants.{Said, Refused}
 use Rattle.record_entry.specs.Entry.{counter_from, sampled_from, saved_at, entry_from, entry_bytes}
+use Rattle.refusal.specs.declared.Refusal.{Refusal}
 
 -- Axis 9, a counter of 12 bits at 258.
 abbrev counter : Entry
@@ -38,13 +38,13 @@ unfolding bytes_of field_bytes front_bytes setting_bytes axis_bytes entry_bytes
 entry_written = refl
 
 -- Read at the front of a slice, with the least number that it may have.
-abbrev read : ℕ → List ℕ → EntryRead
+abbrev read : ℕ → List ℕ → Result (Entry × ℕ) Refusal
 read least s = entry_from s 0 least
 
 -- Entries that are accepted, with the least number equal to theirs.
 pub entry_read :
     read 9 counter_bytes ∷ read 255 (fronted 255 4 255 (4 ∷ 0 ∷ 1 ∷ 3 ∷ 6 ∷ 0 ∷ 4 ∷ 0 ∷ 0 ∷ 16 ∷ 0 ∷ [])) ∷ []
-    ≡ Said counter 23 ∷ Said sampled 30 ∷ []
+    ≡ Ok (counter, 23) ∷ Ok (sampled, 30) ∷ []
 unfolding number_from field_at good_config in_range counter_from sampled_from saved_at entry_from
 entry_read = refl
 
@@ -65,7 +65,7 @@ pub value_after_field :
     ∷ read 0 (fronted 0 8 255 (5 ∷ 0 ∷ 1 ∷ 1 ∷ []))
     ∷ read 0 (fronted 0 8 255 (4 ∷ 0 ∷ 1 ∷ 3 ∷ []))
     ∷ []
-    ≡ map Refused
+    ≡ map Err
     (Value ∷ Record ∷ Value ∷ Record ∷ Value ∷ Record ∷ Value ∷ Value ∷ Record ∷ Value ∷ Value ∷ Record ∷ [])
 unfolding number_from field_at good_config in_range counter_from sampled_from saved_at entry_from
 value_after_field = refl

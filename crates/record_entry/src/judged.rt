@@ -2,87 +2,88 @@
 ghost use Rattle.std.specs.Prelude.{◌≡◌};
 ghost use Rattle.record_entry.specs.Entry.{counter_from, sampled_from, saved_at};
 
-use axis::config::{Config, is_good};
+use axis::config::{Config, Setting};
 use axis::kind::Kind;
 use position::in_range;
 use record_axis::axis_fields::is_known;
 use record_axis::saved::Saved;
 use record_axis::tags::{DEPTH, KIND, POSITION, TURN, WIDTH};
 use refusal::Refusal;
-use tagged::field::{Field, read_field};
+use tagged::field::read_field;
 use tagged::twos::of_bits;
 
-// What was read of an axis, and where the next field begins.
-#[derive(Clone, Copy)]
-pub enum SavedRead {
-    Said(Saved, usize),
-    Refused(Refusal),
-}
-
 // A counter's fields after the position.
-fn read_counter(slice: &[u8], at: usize, kind: u8, position: i64) -> SavedRead
+#[tactic(auto, unfolding(crate::specs::Entry::counter_from))]
+fn read_counter(
+    slice: &[u8],
+    at: usize,
+    kind: u64,
+    position: i64,
+) -> Result<(Saved, usize), Refusal>
     ensures { result ≡ counter_from slice.now at kind position }
 {
-    let Field::Value(width, at) = read_field(slice, at, WIDTH, 1) else {
-        return SavedRead::Refused(Refusal::Record);
+    let Some((width, at)) = read_field(slice, at, WIDTH, 1) else {
+        return Err(Refusal::Record);
     };
-    if !is_good(kind as u64, 0, width, 0) {
-        return SavedRead::Refused(Refusal::Value);
-    }
-    let width = width as u8;
-    let config = Config {
+    let setting = Setting {
         kind,
-        depth: 0,
         width,
-        turn: 0,
+        ..Setting::default()
     };
-    SavedRead::Said(Saved { config, position }, at)
+    let config = Config::try_from(setting).map_err(|_| Refusal::Value)?;
+    Ok((Saved { config, position }, at))
 }
 
 // A sampled axis's fields after the position; the counts per turn need no test, since four bytes hold none outside their limits.
-fn read_sampled(slice: &[u8], at: usize, kind: u8, position: i64) -> SavedRead
+#[tactic(auto, unfolding(crate::specs::Entry::sampled_from), using(tagged::proofs::FieldLaws::field_below, crate::proofs::EntryLaws::depth_good))]
+fn read_sampled(
+    slice: &[u8],
+    at: usize,
+    kind: u64,
+    position: i64,
+) -> Result<(Saved, usize), Refusal>
     ensures { result ≡ sampled_from slice.now at kind position }
 {
-    let Field::Value(depth, at) = read_field(slice, at, DEPTH, 1) else {
-        return SavedRead::Refused(Refusal::Record);
+    let Some((depth, at)) = read_field(slice, at, DEPTH, 1) else {
+        return Err(Refusal::Record);
     };
-    if !is_good(kind as u64, depth, 0, 0) {
-        return SavedRead::Refused(Refusal::Value);
-    }
-    let Field::Value(turn, at) = read_field(slice, at, TURN, 4) else {
-        return SavedRead::Refused(Refusal::Record);
-    };
-    let depth = depth as u8;
-    let turn = turn as u32;
-    let config = Config {
+    let setting = Setting {
         kind,
         depth,
-        width: 0,
-        turn,
+        ..Setting::default()
     };
-    SavedRead::Said(Saved { config, position }, at)
+    let config = Config::try_from(setting).map_err(|_| Refusal::Value)?;
+    let Some((turn, at)) = read_field(slice, at, TURN, 4) else {
+        return Err(Refusal::Record);
+    };
+    let config = Config {
+        turn: turn as u32,
+        ..config
+    };
+    Ok((Saved { config, position }, at))
 }
 
-// The fields of an axis from at on, or why they are refused: the first check that fails.
-pub fn read_saved(slice: &[u8], at: usize) -> SavedRead
+// The fields of an axis from at on, and where the next field begins; or why they are refused: the first check that fails.
+#[tactic(auto, unfolding(crate::specs::Entry::saved_at))]
+pub fn read_saved(slice: &[u8], at: usize) -> Result<(Saved, usize), Refusal>
     ensures { result ≡ saved_at slice.now at }
 {
-    let Field::Value(kind, at) = read_field(slice, at, KIND, 1) else {
-        return SavedRead::Refused(Refusal::Record);
+    let Some((kind, at)) = read_field(slice, at, KIND, 1) else {
+        return Err(Refusal::Record);
     };
     if !is_known(kind) {
-        return SavedRead::Refused(Refusal::Value);
+        return Err(Refusal::Value);
     }
-    let Field::Value(bits, at) = read_field(slice, at, POSITION, 8) else {
-        return SavedRead::Refused(Refusal::Record);
+    let Some((bits, at)) = read_field(slice, at, POSITION, 8) else {
+        return Err(Refusal::Record);
     };
     let position = of_bits(bits);
     if !in_range(position) {
-        return SavedRead::Refused(Refusal::Value);
+        return Err(Refusal::Value);
     }
     if Kind::is_counter(kind) {
-        read_counter(slice, at, kind as u8, position)
+        read_counter(slice, at, kind, position)
     } else {
-        read_sampled(slice, at, kind as u8, position)
+        read_sampled(slice, at, kind, position)
     }
 }

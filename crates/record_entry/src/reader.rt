@@ -3,31 +3,23 @@ ghost use Rattle.std.specs.Prelude.{◌≡◌};
 ghost use Rattle.record_entry.specs.Entry.{entry_from};
 
 use crate::entry::Entry;
-use crate::judged::{SavedRead, read_saved};
+use crate::judged::read_saved;
 use crate::tags::AXIS;
 use refusal::Refusal;
-use tagged::field::{Field, read_field};
+use tagged::field::read_field;
 
-// The entry that was read, and where the next field begins.
-#[derive(Clone, Copy)]
-pub enum EntryRead {
-    Said(Entry, usize),
-    Refused(Refusal),
-}
-
-// The entry at at, whose number must be at least least, or why it is refused: the first check that fails.
-pub fn read_entry(slice: &[u8], at: usize, least: u64) -> EntryRead
+// The entry at at, whose number must be at least least, and where the next field begins; or why it is refused: the first check that fails.
+#[tactic(auto, unfolding(crate::specs::Entry::entry_from), using(tagged::proofs::FieldLaws::field_below))]
+pub fn read_entry(slice: &[u8], at: usize, least: u64) -> Result<(Entry, usize), Refusal>
     ensures { result ≡ entry_from slice.now at least }
 {
-    let Field::Value(axis, at) = read_field(slice, at, AXIS, 1) else {
-        return EntryRead::Refused(Refusal::Record);
+    let Some((axis, at)) = read_field(slice, at, AXIS, 1) else {
+        return Err(Refusal::Record);
     };
     if axis < least {
-        return EntryRead::Refused(Refusal::Value);
+        return Err(Refusal::Value);
     }
     let axis = axis as u8;
-    match read_saved(slice, at) {
-        SavedRead::Refused(r) => EntryRead::Refused(r),
-        SavedRead::Said(saved, at) => EntryRead::Said(Entry { axis, saved }, at),
-    }
+    let (saved, at) = read_saved(slice, at)?;
+    Ok((Entry { axis, saved }, at))
 }

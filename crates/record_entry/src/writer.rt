@@ -10,10 +10,11 @@ use record_writer::put_axis;
 use tagged::field::put_field;
 
 // An entry at at; answers where the next field begins.
+#[tactic(auto, unfolding(crate::specs::Entry::entry_bytes, tagged::specs::Field::field_bytes, tagged::specs::Bytes::bytes_of), using(tagged::proofs::StoreLaws::puts_then))]
 pub fn put_entry(buf: &mut [u8], at: usize, entry: Entry) -> usize
     requires { at + 4 + axis_length entry.saved.config.kind ≤ length buf.old }
     ensures { Puts (entry_bytes entry) buf.old at buf.new result }
 {
-    let at = put_field(buf, at, AXIS, 1, entry.axis as u64);
+    let at = put_field(buf, at, AXIS, 1, u64::from(entry.axis));
     put_axis(buf, at, entry.saved)
 }

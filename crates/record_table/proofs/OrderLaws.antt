@@ -1,4 +1,5 @@
 -- The laws of a whole table's record, field by field: the reader answers what the first failing check gives, and nothing else.
+use Rattle.std.specs.Prelude.{Result, Err, Ok, Option, Some, None}
 use mathlib.Core.Path.{◌≡◌, refl, sym, ap, ◌∙◌, subst}
 use mathlib.Core.Logic.{◌↔◌}
 use mathlib.Core.Bool.{Bool, true, false, cond, ◌&&◌, true≢false, and-true, and-false, or-false}
@@ -27,20 +28,17 @@ use Rattle.record.specs.Order.{layout_in}
 use Rattle.record.proofs.OrderLaws.{layout_is}
 use Rattle.record_entry.specs.Entry.{counter_from, sampled_from, saved_at, numbered, entry_from}
 use Rattle.record_entry.specs.declared.entry.Entry.{Entry}
-use Rattle.record_entry.specs.declared.judged.SavedRead.{SavedRead}
-use Rattle.record_entry.specs.declared.judged.SavedRead.TheVariants.{Refused}
-use Rattle.record_entry.specs.declared.reader.EntryRead.{EntryRead}
-use Rattle.record_entry.specs.declared.reader.EntryRead.TheVariants.{Refused as Unentered}
 use Rattle.record_table.specs.Opening.{table_opening}
-use Rattle.record_table.specs.TableRecord.{TableRead, says, unsaid, on_entry, before, closes_at, entries_at, table_read_as}
+use Rattle.record_table.specs.TableRecord.{on_entry, before, closes_at, entries_at, table_read_as}
 use Rattle.record_table.specs.Order.{Wanted, count, number, kind, position, width, depth, turn, end, tag_of, size_of, fits}
-use Rattle.record_table.specs.Order.{entries_left, Ahead, then, nothing, field_after, adds}
+use Rattle.record_table.specs.Order.{entries_left, field_after, adds}
 use Rattle.record_table.specs.Order.{Goes, unshaped, unfit, on, whole, trailing, TableJudged, no_layout, other_layout, by_fields}
+use Rattle.record_axis.specs.declared.saved.Saved.{Saved}
 
 -- ---- one answer
 
 -- From one place on there is one answer.
-goes_one : {s : List ℕ} {w : Ahead} {at : ℕ} {a b : TableRead} → Goes s w at a → Goes s w at b → a ≡ b
+goes_one : {s : List ℕ} {w : Option Wanted} {at : ℕ} {a b : Result (List Entry) Refusal} → Goes s w at a → Goes s w at b → a ≡ b
 goes_one (unshaped p) (unshaped q) = refl
 goes_one (unshaped p) (unfit q f) = absurd (true≢false (sym q ∙ p))
 goes_one (unshaped p) (on q f g) = absurd (true≢false (sym q ∙ p))
@@ -72,24 +70,24 @@ turn_fits m d v k f =
     rw (k, p.0, p.1, and-false (counter_kind m), or-false)
 
 -- What holds behind a check that holds.
-under : (t : Bool) (z : TableRead) {x y : TableRead} → (t ≡ true → x ≡ y) → cond t x z ≡ cond t y z
+under : (t : Bool) (z : Result (List Entry) Refusal) {x y : Result (List Entry) Refusal} → (t ≡ true → x ≡ y) → cond t x z ≡ cond t y z
 under true z f = f refl
 under false z f = refl
 
 module _ (s : List ℕ) where
   -- The answer of a field by what the rest answers.
-  abbrev step : Wanted → ℕ → TableRead → TableRead
+  abbrev step : Wanted → ℕ → Result (List Entry) Refusal → Result (List Entry) Refusal
   step w at a =
       cond (stands_at s at (tag_of w) (size_of w))
-      (cond (fits w (number_at s (at + 3) (size_of w))) (adds w (number_at s (at + 3) (size_of w)) a) (unsaid Value)) (unsaid Record)
+      (cond (fits w (number_at s (at + 3) (size_of w))) (adds w (number_at s (at + 3) (size_of w)) a) (Err Value)) (Err Record)
 
   -- It is what the checks give.
-  goes_step : (w : Wanted) (at : ℕ) (a : TableRead) →
+  goes_step : (w : Wanted) (at : ℕ) (a : Result (List Entry) Refusal) →
       (fits w (number_at s (at + 3) (size_of w)) ≡ true → Goes s (field_after w (number_at s (at + 3) (size_of w))) (at + 3 + size_of w) a) →
-      Goes s (then w) at (step w at a)
+      Goes s (Some w) at (step w at a)
   goes_step w at a more = go (test (stands_at s at (tag_of w) (size_of w))) (test (fits w (number_at s (at + 3) (size_of w))))
     where
-      go : Decided (stands_at s at (tag_of w) (size_of w)) → Decided (fits w (number_at s (at + 3) (size_of w))) → Goes s (then w) at
+      go : Decided (stands_at s at (tag_of w) (size_of w)) → Decided (fits w (number_at s (at + 3) (size_of w))) → Goes s (Some w) at
           (step w at a)
       go (no t) f = rw t (unshaped t)
       go (yes t) (no f) = rw (t, f) (unfit t f)
@@ -98,16 +96,16 @@ module _ (s : List ℕ) where
   -- ---- an entry as checks
 
   -- What an entry's answer says with the rest.
-  abbrev on_saved : ℕ → ℕ → SavedRead → TableRead
+  abbrev on_saved : ℕ → ℕ → Result (Saved × ℕ) Refusal → Result (List Entry) Refusal
   on_saved left k x = on_entry (numbered k x) (λ e at. before e (entries_at left s at (suc e.axis)))
 
-  saved_check : (left k : ℕ) (t : Bool) (x : SavedRead) (r : Refusal) → on_saved left k (cond t x (Refused r)) ≡ cond t
-      (on_saved left k x) (unsaid r)
+  saved_check : (left k : ℕ) (t : Bool) (x : Result (Saved × ℕ) Refusal) (r : Refusal) → on_saved left k (cond t x (Err r)) ≡ cond t
+      (on_saved left k x) (Err r)
   saved_check left k true x r = refl
   saved_check left k false x r = refl
 
-  entry_check : (t : Bool) (x : EntryRead) (r : Refusal) (f : Entry → ℕ → TableRead) → on_entry (cond t x (Unentered r)) f ≡ cond t
-      (on_entry x f) (unsaid r)
+  entry_check : (t : Bool) (x : Result (Entry × ℕ) Refusal) (r : Refusal) (f : Entry → ℕ → Result (List Entry) Refusal) → on_entry (cond t x (Err r)) f ≡ cond t
+      (on_entry x f) (Err r)
   entry_check true x r f = refl
   entry_check false x r f = refl
 
@@ -123,8 +121,8 @@ module _ (s : List ℕ) where
   unfolding sampled_from
   sampled_step left k m at bits c =
       rw (on_field_lem, saved_check left k, saved_check left k, depth_fits m d c, on_field_lem, saved_check left k, saved_check left k)
-      (under (stands_at s at depth_tag 1) (unsaid Record)
-      (λ _. under (leb 1 d && leb d 8) (unsaid Value) (λ f. rw (turn_fits m d v c f))))
+      (under (stands_at s at depth_tag 1) (Err Record)
+      (λ _. under (leb 1 d && leb d 8) (Err Value) (λ f. rw (turn_fits m d v c f))))
     where
       d : ℕ
       d = number_at s (at + 3) 1
@@ -150,37 +148,37 @@ module _ (s : List ℕ) where
   entry_step left at least = rw (on_field_lem, entry_check, entry_check)
 
   end_step : (at : ℕ) →
-      cond (closes_at s at) (says []) (unsaid Record) ≡ step end at (cond (eqb (length s) (at + 3 + 0)) (says []) (unsaid Record))
+      cond (closes_at s at) (Ok []) (Err Record) ≡ step end at (cond (eqb (length s) (at + 3 + 0)) (Ok []) (Err Record))
   unfolding closes_at
   end_step at = rw on_field_lem (go (stands_at s at end_tag 0) (eqb (length s) (at + 3 + 0)))
     where
       go : (t u : Bool) →
-          cond (cond t u false) (says []) (unsaid Record) ≡ cond t (cond true (cond u (says []) (unsaid Record)) (unsaid Value))
-          (unsaid Record)
+          cond {A = Result (List Entry) Refusal} (cond t u false) (Ok []) (Err Record) ≡ cond t (cond true (cond u (Ok []) (Err Record)) (Err Value))
+          (Err Record)
       go true u = refl
       go false u = refl
 
   -- ---- the reader, field by field
 
   -- The end, and nothing after it.
-  goes_end : (at : ℕ) → Goes s (then end) at (cond (closes_at s at) (says []) (unsaid Record))
+  goes_end : (at : ℕ) → Goes s (Some end) at (cond (closes_at s at) (Ok []) (Err Record))
   goes_end at = rw (end_step at) (goes_step end at _ (λ _. go (test (eqb (length s) (at + 3 + 0)))))
     where
-      go : Decided (eqb (length s) (at + 3 + 0)) → Goes s nothing (at + 3 + 0) (cond (eqb (length s) (at + 3 + 0)) (says [])
-          (unsaid Record))
+      go : Decided (eqb (length s) (at + 3 + 0)) → Goes s None (at + 3 + 0) (cond (eqb (length s) (at + 3 + 0)) (Ok [])
+          (Err Record))
       go (yes e) = rw e (whole e)
       go (no e) = rw e (trailing e)
 
   module _ (left : ℕ)
-      (more : (at least : ℕ) → Goes s (then (entries_left left least)) at (entries_at left s at least)) where
+      (more : (at least : ℕ) → Goes s (Some (entries_left left least)) at (entries_at left s at least)) where
     -- The fields of an axis after its position.
     goes_rest : (k m at bits : ℕ) → known_kind m ≡ true →
-        Goes s (then (cond (counter_kind m) (width left k m bits) (depth left k m bits))) at
+        Goes s (Some (cond (counter_kind m) (width left k m bits) (depth left k m bits))) at
         (on_saved left k (cond (counter_kind m) (counter_from s at m (to_z w64 bits)) (sampled_from s at m (to_z w64 bits))))
     goes_rest k m at bits known = go (test (counter_kind m))
       where
         go : Decided (counter_kind m) →
-            Goes s (then (cond (counter_kind m) (width left k m bits) (depth left k m bits))) at
+            Goes s (Some (cond (counter_kind m) (width left k m bits) (depth left k m bits))) at
             (on_saved left k (cond (counter_kind m) (counter_from s at m (to_z w64 bits)) (sampled_from s at m (to_z w64 bits))))
         go (yes c) = rw (c, counter_step left k m at bits c) (goes_step (width left k m bits) at _ (λ _. more (at + 3 + 1) (suc k)))
         go (no c) =
@@ -190,7 +188,7 @@ module _ (s : List ℕ) where
             (λ _. goes_step (turn left k m bits (number_at s (at + 3) 1)) (at + 3 + 1) _ (λ _. more (at + 3 + 1 + 3 + 4) (suc k))))
 
     -- An entry, and what follows it.
-    goes_entry : (at least : ℕ) → Goes s (then (number left least)) at (entries_at (suc left) s at least)
+    goes_entry : (at least : ℕ) → Goes s (Some (number left least)) at (entries_at (suc left) s at least)
     goes_entry at least =
         let k = number_at s (at + 3) 1 in
         let m = number_at s (at + 3 + 1 + 3) 1 in
@@ -201,13 +199,13 @@ module _ (s : List ℕ) where
         (λ known. goes_step (position left k m) (at + 3 + 1 + 3 + 1) _
         (λ _. goes_rest k m (at + 3 + 1 + 3 + 1 + 3 + 8) bits known))))
 
-  goes_entries : (left at least : ℕ) → Goes s (then (entries_left left least)) at (entries_at left s at least)
+  goes_entries : (left at least : ℕ) → Goes s (Some (entries_left left least)) at (entries_at left s at least)
   unfolding entries_at
   goes_entries zero at least = goes_end at
   goes_entries (suc left) at least = goes_entry left (goes_entries left) at least
 
   -- The whole record after the opening.
-  goes_fields : starts table_opening s ≡ true → Goes s (then count) 5 (table_read_as s)
+  goes_fields : starts table_opening s ≡ true → Goes s (Some count) 5 (table_read_as s)
   unfolding table_read_as
   goes_fields o = rw (o, on_field_lem) (goes_step count 5 _ (λ _. goes_entries (number_at s 8 1) 9 0))
 
@@ -223,16 +221,16 @@ opened_stands a b s o =
 
 module _ (s : List ℕ) (o : starts table_opening s ≡ false) where
   -- Without it a layout field gives its number, and RECORD stands for none.
-  pub named : stands_at s 0 layout_tag 2 ≡ true → table_read_as s ≡ unsaid (Layout (layout_in s))
+  pub named : stands_at s 0 layout_tag 2 ≡ true → table_read_as s ≡ Err (Layout (layout_in s))
   unfolding table_read_as
   named t = rw (o, layout_is s, t)
 
-  pub unnamed : stands_at s 0 layout_tag 2 ≡ false → table_read_as s ≡ unsaid Record
+  pub unnamed : stands_at s 0 layout_tag 2 ≡ false → table_read_as s ≡ Err Record
   unfolding table_read_as
   unnamed t = rw (o, layout_is s, t)
 
 -- The reader answers exactly what the checks in their order give.
-pub table_exactly : (s : List ℕ) (r : TableRead) → (table_read_as s ≡ r) ↔ TableJudged s r
+pub table_exactly : (s : List ℕ) (r : Result (List Entry) Refusal) → (table_read_as s ≡ r) ↔ TableJudged s r
 table_exactly s r =
     (λ e. subst (TableJudged s) e (judged (test (starts table_opening s)) (test (stands_at s 0 layout_tag 2))), judges)
   where
@@ -241,7 +239,7 @@ table_exactly s r =
     judged (no o) (yes t) = other_layout t o (named s o t)
     judged (no o) (no t) = no_layout t (unnamed s o t)
 
-    absent : stands_at s 0 layout_tag 2 ≡ false → Decided (starts table_opening s) → table_read_as s ≡ unsaid Record
+    absent : stands_at s 0 layout_tag 2 ≡ false → Decided (starts table_opening s) → table_read_as s ≡ Err Record
     absent t (yes o) = absurd (true≢false (sym (opened_stands 0 2 s o) ∙ t))
     absent t (no o) = unnamed s o t
 

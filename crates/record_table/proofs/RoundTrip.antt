@@ -1,4 +1,5 @@
 -- A record of a whole table that was written is read back, and a slice that was accepted is what is written again.
+use Rattle.std.specs.Prelude.{Result, Ok, Err}
 use mathlib.Core.Path.{◌≡◌, refl, sym, ap, ◌∙◌}
 use mathlib.Core.Bool.{Bool, true, false, cond}
 use mathlib.Core.List.{List, [], ◌∷◌, ◌++◌, append_assoc}
@@ -20,12 +21,10 @@ use Rattle.record_axis.proofs.AxisLaws.{on_field_lem}
 use Rattle.record.specs.Tags.{end_tag}
 use Rattle.record_entry.specs.Entry.{entry_from, entry_bytes}
 use Rattle.record_entry.specs.declared.entry.Entry.{Entry}
-use Rattle.record_entry.specs.declared.reader.EntryRead.{EntryRead}
-use Rattle.record_entry.specs.declared.reader.EntryRead.TheVariants.{Said, Refused}
 use Rattle.record_entry.proofs.EntryLaws.{entry_back, entry_within, entry_again}
 use Rattle.record_table.specs.Opening.{table_opening}
 use Rattle.record_table.specs.Tags.{count_tag}
-use Rattle.record_table.specs.TableRecord.{TableRead, says, unsaid, on_entry, before, closes_at, entries_at, table_read_as}
+use Rattle.record_table.specs.TableRecord.{on_entry, before, closes_at, entries_at, table_read_as}
 use Rattle.record_table.specs.TableRecord.{entries_bytes, table_front, table_record_of, Ascending, Tellable}
 
 -- The end of a record.
@@ -42,7 +41,7 @@ closed_back s at e =
     rw f.0 (eq-eqb (length s) (at + 3 + 0) long)
 
 entries_back : (es : List Entry) (s : List ℕ) (at least : ℕ) → drop at s ≡ entries_bytes es ++ end → Ascending least es →
-    entries_at (length es) s at least ≡ says es
+    entries_at (length es) s at least ≡ Ok es
 unfolding entries_at entries_bytes
 entries_back [] s at least d a = rw (closed_back s at d)
 entries_back (e ∷ es) s at least d a =
@@ -51,7 +50,7 @@ entries_back (e ∷ es) s at least d a =
     rw (f.0, entries_back es s (at + length (entry_bytes e)) (suc e.axis) f.1 a.3)
 
 -- What is written is read.
-pub written_read : (es : List Entry) → Tellable es → table_read_as (table_record_of es) ≡ says es
+pub written_read : (es : List Entry) → Tellable es → table_read_as (table_record_of es) ≡ Ok es
 unfolding table_read_as table_record_of table_front starts most_axes
 written_read es t =
     let s = table_record_of es in
@@ -79,11 +78,11 @@ record Again (n : ℕ) (s : List ℕ) (at least : ℕ) (es : List Entry) : Type 
   stand : drop at s ≡ entries_bytes es ++ end
 
 entries_again : (n : ℕ) (s : List ℕ) (at least : ℕ) (es : List Entry) → AllBytes s → entries_at n s at least
-    ≡ says es → Again n s at least es
+    ≡ Ok es → Again n s at least es
 unfolding entries_at entries_bytes
 entries_again zero s at least es b h = go (test (closes_at s at)) h
   where
-    go : Decided (closes_at s at) → cond (closes_at s at) (says []) (unsaid Record) ≡ says es → Again zero s at least es
+    go : Decided (closes_at s at) → cond (closes_at s at) (Ok []) (Err Record) ≡ Ok es → Again zero s at least es
     go (no t) k = let j = rw t at k in let z : ◌≡◌ {A = ℕ} 0 1 = cc in absurd (omega arith)
     go (yes t) k =
         let j = rw t at k in
@@ -91,12 +90,12 @@ entries_again zero s at least es b h = go (test (closes_at s at)) h
         rw (← none) (record { many = refl; rising = tt; stand = closed_again s at b t })
 entries_again (suc n) s at least es b h = go (entry_from s at least) refl h (λ e next. entries_again n s next (suc e.axis))
   where
-    rest : (e : Entry) (next : ℕ) → entry_from s at least ≡ Said e next → (x : TableRead) → entries_at n s next (suc e.axis) ≡ x →
-        before e x ≡ says es →
-        ((fs : List Entry) → AllBytes s → entries_at n s next (suc e.axis) ≡ says fs → Again n s next (suc e.axis) fs) →
+    rest : (e : Entry) (next : ℕ) → entry_from s at least ≡ Ok (e, next) → (x : Result (List Entry) Refusal) → entries_at n s next (suc e.axis) ≡ x →
+        before e x ≡ Ok es →
+        ((fs : List Entry) → AllBytes s → entries_at n s next (suc e.axis) ≡ Ok fs → Again n s next (suc e.axis) fs) →
         Again (suc n) s at least es
-    rest e next q (unsaid r) p k more = let z : ◌≡◌ {A = ℕ} 0 1 = cc in absurd (omega arith)
-    rest e next q (says fs) p k more =
+    rest e next q (Err r) p k more = let z : ◌≡◌ {A = ℕ} 0 1 = cc in absurd (omega arith)
+    rest e next q (Ok fs) p k more =
         let same : e ∷ fs ≡ es = cc in
         let i = more fs b p in
         let a = entry_again s at e least next q b in
@@ -106,20 +105,20 @@ entries_again (suc n) s at least es b h = go (entry_from s at least) refl h (λ 
           stand = a.0 ∙ rw i.stand (sym (append_assoc (entry_bytes e) (entries_bytes fs) end));
         })
 
-    go : (x : EntryRead) → entry_from s at least ≡ x → on_entry x (λ e at. before e (entries_at n s at (suc e.axis))) ≡ says es →
-        ((e : Entry) (next : ℕ) (fs : List Entry) → AllBytes s → entries_at n s next (suc e.axis) ≡ says fs →
+    go : (x : Result (Entry × ℕ) Refusal) → entry_from s at least ≡ x → on_entry x (λ e at. before e (entries_at n s at (suc e.axis))) ≡ Ok es →
+        ((e : Entry) (next : ℕ) (fs : List Entry) → AllBytes s → entries_at n s next (suc e.axis) ≡ Ok fs →
         Again n s next (suc e.axis) fs) →
         Again (suc n) s at least es
-    go (Refused r) q k more = let z : ◌≡◌ {A = ℕ} 0 1 = cc in absurd (omega arith)
-    go (Said e next) q k more = rest e next q (entries_at n s next (suc e.axis)) refl k (more e next)
+    go (Err r) q k more = let z : ◌≡◌ {A = ℕ} 0 1 = cc in absurd (omega arith)
+    go (Ok (e, next)) q k more = rest e next q (entries_at n s next (suc e.axis)) refl k (more e next)
 
 -- A check that a record passed.
-read_if : (t : Bool) {x y : TableRead} {es : List Entry} → cond t x y ≡ says es → ((z : List Entry) → y ≡ says z → ⊥) →
-    (t ≡ true) × (x ≡ says es)
+read_if : (t : Bool) {x y : Result (List Entry) Refusal} {es : List Entry} → cond t x y ≡ Ok es → ((z : List Entry) → y ≡ Ok z → ⊥) →
+    (t ≡ true) × (x ≡ Ok es)
 read_if true e n = (refl, e)
 read_if false {es = es} e n = absurd (n es e)
 
-unsaid_not : {r : Refusal} (z : List Entry) → unsaid r ≡ says z → ⊥
+unsaid_not : {r : Refusal} (z : List Entry) → Err r ≡ Ok z → ⊥
 unsaid_not z h = let z : ◌≡◌ {A = ℕ} 0 1 = cc in omega arith
 
 -- What an accepted slice passed: its opening, and as many entries as its number of axes says, behind that number.
@@ -127,9 +126,9 @@ record Passed (s : List ℕ) (es : List Entry) : Type 0 where
   opens : starts table_opening s ≡ true
   counted : stands_at s 5 count_tag 1 ≡ true
   few : number_at s 8 1 ≤ most_axes
-  read : entries_at (number_at s 8 1) s 9 0 ≡ says es
+  read : entries_at (number_at s 8 1) s 9 0 ≡ Ok es
 
-passed : (s : List ℕ) (es : List Entry) → table_read_as s ≡ says es → Passed s es
+passed : (s : List ℕ) (es : List Entry) → table_read_as s ≡ Ok es → Passed s es
 unfolding table_read_as
 passed s es h =
     let o = read_if (starts table_opening s) h unsaid_not in
@@ -137,7 +136,7 @@ passed s es h =
     let m = read_if (leb (number_at s 8 1) most_axes) f.1 unsaid_not in
     record { opens = o.0; counted = f.0; few = leb-true (number_at s 8 1) most_axes m.0; read = m.1 }
 
-module _ (s : List ℕ) (es : List Entry) (b : AllBytes s) (h : table_read_as s ≡ says es) where
+module _ (s : List ℕ) (es : List Entry) (b : AllBytes s) (h : table_read_as s ≡ Ok es) where
   again : Again (number_at s 8 1) s 9 0 es
   again = entries_again (number_at s 8 1) s 9 0 es b (passed s es h).read
 
@@ -154,38 +153,38 @@ module _ (s : List ℕ) (es : List Entry) (b : AllBytes s) (h : table_read_as s 
   read_tellable = record { few = rw again.many (passed s es h).few; rising = again.rising }
 
   -- Its entries stand from the tenth byte on.
-  pub read_entries : entries_at (length es) s 9 0 ≡ says es
+  pub read_entries : entries_at (length es) s 9 0 ≡ Ok es
   read_entries = rw again.many (passed s es h).read
 
 -- An accepted slice opens with the five bytes.
-pub read_opens : (s : List ℕ) (es : List Entry) → table_read_as s ≡ says es → starts table_opening s ≡ true
+pub read_opens : (s : List ℕ) (es : List Entry) → table_read_as s ≡ Ok es → starts table_opening s ≡ true
 read_opens s es h = (passed s es h).opens
 
 -- ---- one entry more
 
-module _ (n : ℕ) (s : List ℕ) (at least : ℕ) {es : List Entry} (h : entries_at (suc n) s at least ≡ says es) where
+module _ (n : ℕ) (s : List ℕ) (at least : ℕ) {es : List Entry} (h : entries_at (suc n) s at least ≡ Ok es) where
   -- Of entries that are accepted none is refused.
-  pub entry_some : (r : Refusal) → entry_from s at least ≡ Refused r → ⊥
+  pub entry_some : (r : Refusal) → entry_from s at least ≡ Err r → ⊥
   unfolding entries_at
   entry_some r q = unsaid_not es (rw q at h)
 
   -- The first of them, and those behind it.
-  pub entries_first : (e : Entry) (next : ℕ) → entry_from s at least ≡ Said e next →
-      (fs : List Entry) × (es ≡ e ∷ fs) × (entries_at n s next (suc e.axis) ≡ says fs)
+  pub entries_first : (e : Entry) (next : ℕ) → entry_from s at least ≡ Ok (e, next) →
+      (fs : List Entry) × (es ≡ e ∷ fs) × (entries_at n s next (suc e.axis) ≡ Ok fs)
   unfolding entries_at
   entries_first e next q = go (entries_at n s next (suc e.axis)) refl (rw q at h)
     where
-      go : (x : TableRead) → entries_at n s next (suc e.axis) ≡ x → before e x ≡ says es →
-          (fs : List Entry) × (es ≡ e ∷ fs) × (entries_at n s next (suc e.axis) ≡ says fs)
-      go (says fs) p k = let same : e ∷ fs ≡ es = cc in (fs, sym same, p)
-      go (unsaid r) p k = absurd (unsaid_not es k)
+      go : (x : Result (List Entry) Refusal) → entries_at n s next (suc e.axis) ≡ x → before e x ≡ Ok es →
+          (fs : List Entry) × (es ≡ e ∷ fs) × (entries_at n s next (suc e.axis) ≡ Ok fs)
+      go (Ok fs) p k = let same : e ∷ fs ≡ es = cc in (fs, sym same, p)
+      go (Err r) p k = absurd (unsaid_not es k)
 
 -- Of none there is none.
-pub entries_none : (s : List ℕ) (at least : ℕ) {es : List Entry} → entries_at 0 s at least ≡ says es → es ≡ []
+pub entries_none : (s : List ℕ) (at least : ℕ) {es : List Entry} → entries_at 0 s at least ≡ Ok es → es ≡ []
 unfolding entries_at
 entries_none s at least {es} h = go (test (closes_at s at)) h
   where
-    go : Decided (closes_at s at) → cond (closes_at s at) (says []) (unsaid Record) ≡ says es → es ≡ []
+    go : Decided (closes_at s at) → cond (closes_at s at) (Ok []) (Err Record) ≡ Ok es → es ≡ []
     go (yes t) k = let j = rw t at k in cc
     go (no t) k = absurd (unsaid_not es (rw t at k))
 
@@ -196,16 +195,16 @@ abbrev pub Limited : List Entry → Type 0
 Limited [] = Unit {0}
 Limited (e ∷ es) = (within_limits e.saved ≡ true) × Limited es
 
-entries_within : (n : ℕ) (s : List ℕ) (at least : ℕ) (es : List Entry) → entries_at n s at least ≡ says es → Limited es
+entries_within : (n : ℕ) (s : List ℕ) (at least : ℕ) (es : List Entry) → entries_at n s at least ≡ Ok es → Limited es
 entries_within zero s at least es h = rw (entries_none s at least h) tt
 entries_within (suc n) s at least es h = go (entry_from s at least) refl (λ e next. entries_within n s next (suc e.axis))
   where
-    go : (x : EntryRead) → entry_from s at least ≡ x →
-        ((e : Entry) (next : ℕ) (fs : List Entry) → entries_at n s next (suc e.axis) ≡ says fs → Limited fs) → Limited es
-    go (Refused r) q more = absurd (entry_some n s at least h r q)
-    go (Said e next) q more =
+    go : (x : Result (Entry × ℕ) Refusal) → entry_from s at least ≡ x →
+        ((e : Entry) (next : ℕ) (fs : List Entry) → entries_at n s next (suc e.axis) ≡ Ok fs → Limited fs) → Limited es
+    go (Err r) q more = absurd (entry_some n s at least h r q)
+    go (Ok (e, next)) q more =
         let f = entries_first n s at least h e next q in
         rw f.1 (entry_within s at e least next q, more e next f.0 f.2)
 
-pub read_within : (s : List ℕ) (es : List Entry) → table_read_as s ≡ says es → Limited es
+pub read_within : (s : List ℕ) (es : List Entry) → table_read_as s ≡ Ok es → Limited es
 read_within s es h = entries_within (number_at s 8 1) s 9 0 es (passed s es h).read

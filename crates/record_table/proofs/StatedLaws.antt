@@ -1,4 +1,5 @@
 -- What docs/RULES.md states, computed to its end: "The record of a whole table".
+use Rattle.std.specs.Prelude.{Ok, Err}
 use mathlib.Core.Path.{◌≡◌, refl}
 use mathlib.Core.List.{List, [], ◌∷◌, map}
 use Prim.Native.Nat.{ℕ}
@@ -12,13 +13,11 @@ use Rattle.tagged.specs.Field.{field_at, field_bytes}
 use Rattle.record_axis.specs.AxisFields.{counter_at, sampled_at, axis_at, front_bytes, setting_bytes, axis_bytes}
 use Rattle.record_axis.specs.Limits.{within_limits}
 use Rattle.record.specs.Record.{layout_refusal, ended_at, read_as}
-use Rattle.record.specs.declared.answer.Tested.TheVariants.{Accepted as Passes, Refused as Fails}
 use Rattle.record_entry.specs.Entry.{counter_from, sampled_from, saved_at, entry_from, entry_bytes}
 use Rattle.record_entry.specs.declared.entry.Entry.{Entry}
-use Rattle.record_table.specs.TableRecord.{says, unsaid, closes_at, entries_at, table_read_as, tested_either}
+use Rattle.record_table.specs.TableRecord.{closes_at, entries_at, table_read_as, tested_either}
 use Rattle.record_table.specs.TableRecord.{entries_bytes, table_front, table_record_of}
 use Rattle.record_table.specs.Survey.{bound_of, survey_of}
-use Rattle.record_table.specs.declared.reader.Survey.TheVariants.{Accepted, Refused}
 
 -- An x4 axis of depth 3 and 4096 counts per turn at -2, and a counter of 12 bits at 70,000.
 abbrev x4 : ℕ → Entry
@@ -55,14 +54,14 @@ table_written = refl
 pub table_read :
     map table_read_as
     (counted 2 (x4_bytes 0 (narrow_bytes 2 (ending []))) ∷ counted 0 (ending []) ∷ counted 2 (narrow_bytes 16 (x4_bytes 255 (ending []))) ∷ [])
-    ≡ map says ((x4 0 ∷ narrow 2 ∷ []) ∷ [] ∷ (narrow 16 ∷ x4 255 ∷ []) ∷ [])
+    ≡ map Ok ((x4 0 ∷ narrow 2 ∷ []) ∷ [] ∷ (narrow 16 ∷ x4 255 ∷ []) ∷ [])
 unfolding number_from starts field_at good_config in_range most_axes counter_from sampled_from saved_at entry_from closes_at entries_at table_read_as
 table_read = refl
 
 -- What a reader keeps of them: how many axes there are, and the first number above theirs.
 pub table_kept :
-    map survey_of (says (x4 0 ∷ narrow 2 ∷ []) ∷ says [] ∷ says (narrow 16 ∷ x4 255 ∷ []) ∷ unsaid Value ∷ [])
-    ≡ Accepted 2 3 ∷ Accepted 0 0 ∷ Accepted 2 256 ∷ Refused Value ∷ []
+    map survey_of (Ok (x4 0 ∷ narrow 2 ∷ []) ∷ Ok [] ∷ Ok (narrow 16 ∷ x4 255 ∷ []) ∷ Err Value ∷ [])
+    ≡ Ok (2, 3) ∷ Ok (0, 0) ∷ Ok (2, 256) ∷ Err Value ∷ []
 unfolding bound_of
 table_kept = refl
 
@@ -70,7 +69,7 @@ table_kept = refl
 pub table_layouts :
     map table_read_as
     ((1 ∷ 0 ∷ 2 ∷ 0 ∷ 1 ∷ []) ∷ (1 ∷ 0 ∷ 2 ∷ 2 ∷ 2 ∷ 8 ∷ []) ∷ (1 ∷ 0 ∷ 2 ∷ 0 ∷ []) ∷ (2 ∷ 0 ∷ 2 ∷ 0 ∷ 1 ∷ []) ∷ [] ∷ [])
-    ≡ map unsaid (Layout 1 ∷ Layout 514 ∷ Record ∷ Record ∷ Record ∷ [])
+    ≡ map Err (Layout 1 ∷ Layout 514 ∷ Record ∷ Record ∷ Record ∷ [])
 unfolding number_from starts field_at layout_refusal table_read_as
 table_layouts = refl
 
@@ -87,7 +86,7 @@ pub table_checked :
     ∷ counted 1 (x4_bytes 0 (127 ∷ 0 ∷ []))
     ∷ counted 1 (x4_bytes 0 [])
     ∷ [])
-    ≡ map unsaid (Record ∷ Value ∷ Record ∷ Record ∷ Value ∷ Value ∷ Record ∷ Record ∷ Record ∷ [])
+    ≡ map Err (Record ∷ Value ∷ Record ∷ Record ∷ Value ∷ Value ∷ Record ∷ Record ∷ Record ∷ [])
 unfolding number_from starts field_at good_config in_range most_axes counter_from sampled_from saved_at entry_from closes_at entries_at table_read_as
 table_checked = refl
 
@@ -101,7 +100,7 @@ pub either_tested :
     ∷ (1 ∷ 0 ∷ 2 ∷ 0 ∷ 3 ∷ [])
     ∷ []
     ∷ [])
-    ≡ Passes ∷ Passes ∷ Fails Record ∷ Fails Value ∷ Fails (Layout 3) ∷ Fails Record ∷ []
+    ≡ (Ok tt) ∷ (Ok tt) ∷ Err Record ∷ Err Value ∷ Err (Layout 3) ∷ Err Record ∷ []
 unfolding number_from starts field_at good_config in_range most_axes counter_at sampled_at axis_at within_limits layout_refusal ended_at read_as closes_at
     entries_at table_read_as tested_either
 either_tested = refl

@@ -1,6 +1,6 @@
 -- The checks of a whole table's record, field by field from the left, and the answer that the first failing one gives: docs/RULES.md, "The
 -- record of a whole table".
-use Rattle.std.specs.Prelude.{◌≡◌, Bool, true, false, ◌&&◌, cond, List, [], ℕ, zero, suc, ◌+◌, ◌^◌, eqb, leb, ltb, length}
+use Rattle.std.specs.Prelude.{◌≡◌, Bool, true, false, ◌&&◌, cond, List, [], ℕ, zero, suc, ◌+◌, ◌^◌, eqb, leb, ltb, length, Result, Ok, Err, Option, Some, None}
 use Rattle.std.specs.Int.{w64}
 use Rattle.std.proofs.Common.{to_z}
 use Rattle.refusal.specs.declared.Refusal.TheVariants.{Value, Layout, Record}
@@ -19,7 +19,8 @@ use Rattle.record_entry.specs.Tags.{axis_tag}
 use Rattle.record_entry.specs.declared.entry.Entry.{Entry}
 use Rattle.record_table.specs.Opening.{table_opening}
 use Rattle.record_table.specs.Tags.{count_tag}
-use Rattle.record_table.specs.TableRecord.{TableRead, says, unsaid, before}
+use Rattle.record_table.specs.TableRecord.{before}
+use Rattle.refusal.specs.declared.Refusal.{Refusal}
 
 -- The field that comes next, with the values before it that it goes by: how many entries are left after this one, the least number of an
 -- axis, its number, its kind, the bits of its position and its depth.
@@ -72,26 +73,22 @@ entries_left zero least = end
 entries_left (suc left) least = number left least
 
 -- The field after one with a value; after the end there is none.
-pub data Ahead : Type 0 where
-  then : Wanted → Ahead
-  nothing : Ahead
-
-abbrev pub field_after : Wanted → ℕ → Ahead
-field_after count v = then (entries_left v 0)
-field_after (number left least) v = then (kind left v)
-field_after (kind left k) v = then (position left k v)
-field_after (position left k m) v = then (cond (counter_kind m) (width left k m v) (depth left k m v))
-field_after (width left k m bits) v = then (entries_left left (suc k))
-field_after (depth left k m bits) v = then (turn left k m bits v)
-field_after (turn left k m bits d) v = then (entries_left left (suc k))
-field_after end v = nothing
+abbrev pub field_after : Wanted → ℕ → Option Wanted
+field_after count v = Some (entries_left v 0)
+field_after (number left least) v = Some (kind left v)
+field_after (kind left k) v = Some (position left k v)
+field_after (position left k m) v = Some (cond (counter_kind m) (width left k m v) (depth left k m v))
+field_after (width left k m bits) v = Some (entries_left left (suc k))
+field_after (depth left k m bits) v = Some (turn left k m bits v)
+field_after (turn left k m bits d) v = Some (entries_left left (suc k))
+field_after end v = None
 
 -- The axis that a configuration and the bits of a position say.
 abbrev pub entry_of : ℕ → Config → ℕ → Entry
 entry_of k c bits = record { axis = k; saved = saying c bits }
 
 -- What a value adds to what the rest says: the last field of an entry adds its axis.
-abbrev pub adds : Wanted → ℕ → TableRead → TableRead
+abbrev pub adds : Wanted → ℕ → Result (List Entry) Refusal → Result (List Entry) Refusal
 adds count v a = a
 adds (number left least) v a = a
 adds (kind left k) v a = a
@@ -103,18 +100,18 @@ adds end v a = a
 
 -- The answer from a place on: tag and length first, RECORD where they are not there or the slice ends early; then the value, VALUE outside
 -- its limits; then the next field; and after the end nothing may follow.
-pub data Goes (s : List ℕ) : Ahead → ℕ → TableRead → Type 0 where
-  unshaped : {w : Wanted} {at : ℕ} → stands_at s at (tag_of w) (size_of w) ≡ false → Goes s (then w) at (unsaid Record)
+pub data Goes (s : List ℕ) : Option Wanted → ℕ → Result (List Entry) Refusal → Type 0 where
+  unshaped : {w : Wanted} {at : ℕ} → stands_at s at (tag_of w) (size_of w) ≡ false → Goes s (Some w) at (Err Record)
   unfit : {w : Wanted} {at : ℕ} → stands_at s at (tag_of w) (size_of w) ≡ true → fits w (number_at s (at + 3) (size_of w)) ≡ false →
-      Goes s (then w) at (unsaid Value)
-  on : {w : Wanted} {at : ℕ} {a : TableRead} → stands_at s at (tag_of w) (size_of w) ≡ true → fits w (number_at s (at + 3) (size_of w)) ≡ true →
+      Goes s (Some w) at (Err Value)
+  on : {w : Wanted} {at : ℕ} {a : Result (List Entry) Refusal} → stands_at s at (tag_of w) (size_of w) ≡ true → fits w (number_at s (at + 3) (size_of w)) ≡ true →
       Goes s (field_after w (number_at s (at + 3) (size_of w))) (at + 3 + size_of w) a →
-      Goes s (then w) at (adds w (number_at s (at + 3) (size_of w)) a)
-  whole : {at : ℕ} → eqb (length s) at ≡ true → Goes s nothing at (says [])
-  trailing : {at : ℕ} → eqb (length s) at ≡ false → Goes s nothing at (unsaid Record)
+      Goes s (Some w) at (adds w (number_at s (at + 3) (size_of w)) a)
+  whole : {at : ℕ} → eqb (length s) at ≡ true → Goes s None at (Ok [])
+  trailing : {at : ℕ} → eqb (length s) at ≡ false → Goes s None at (Err Record)
 
 -- The answer to a slice: LAYOUT before all, which needs five bytes that open 01 00 02; and then field by field.
-pub data TableJudged (s : List ℕ) (r : TableRead) : Type 0 where
-  no_layout : stands_at s 0 layout_tag 2 ≡ false → r ≡ unsaid Record → TableJudged s r
-  other_layout : stands_at s 0 layout_tag 2 ≡ true → starts table_opening s ≡ false → r ≡ unsaid (Layout (layout_in s)) → TableJudged s r
-  by_fields : starts table_opening s ≡ true → Goes s (then count) 5 r → TableJudged s r
+pub data TableJudged (s : List ℕ) (r : Result (List Entry) Refusal) : Type 0 where
+  no_layout : stands_at s 0 layout_tag 2 ≡ false → r ≡ Err Record → TableJudged s r
+  other_layout : stands_at s 0 layout_tag 2 ≡ true → starts table_opening s ≡ false → r ≡ Err (Layout (layout_in s)) → TableJudged s r
+  by_fields : starts table_opening s ≡ true → Goes s (Some count) 5 r → TableJudged s r

@@ -1,5 +1,5 @@
 -- The record of a whole table, layout 2: docs/RULES.md, "The record of a whole table".
-use Rattle.std.specs.Prelude.{◌≡◌, Bool, true, false, cond, List, [], ◌∷◌, ◌++◌, ℕ, zero, suc, ◌≤◌, eqb, leb, length}
+use Rattle.std.specs.Prelude.{◌≡◌, Bool, true, false, cond, List, [], ◌∷◌, ◌++◌, ℕ, zero, suc, ◌≤◌, eqb, leb, length, Result, Ok, Err, ⊤}
 use Rattle.refusal.specs.declared.Refusal.{Refusal}
 use Rattle.refusal.specs.declared.Refusal.TheVariants.{Value, Record}
 use Rattle.axis.specs.Limit.{most_axes}
@@ -10,58 +10,49 @@ use Rattle.record_axis.specs.Limits.{within_limits}
 use Rattle.record.specs.Opening.{opening}
 use Rattle.record.specs.Tags.{end_tag}
 use Rattle.record.specs.Record.{layout_refusal, tested_as}
-use Rattle.record.specs.declared.answer.Tested.{Tested}
-use Rattle.record.specs.declared.answer.Tested.TheVariants.{Accepted as Passed, Refused as Failed}
 use Rattle.record_entry.specs.Entry.{entry_from, entry_bytes}
 use Rattle.record_entry.specs.declared.entry.Entry.{Entry}
-use Rattle.record_entry.specs.declared.reader.EntryRead.{EntryRead}
-use Rattle.record_entry.specs.declared.reader.EntryRead.TheVariants.{Said, Refused}
 use Rattle.record_table.specs.Opening.{table_opening}
 use Rattle.record_table.specs.Tags.{count_tag}
 
 -- ---- reading
 
--- What a reader makes of a slice: the axes that it says, in order, or why it is refused.
-pub data TableRead : Type 0 where
-  says : List Entry → TableRead
-  unsaid : Refusal → TableRead
-
 -- An entry's answer: on with it and the next place, or its refusal at once.
-abbrev pub on_entry : EntryRead → (Entry → ℕ → TableRead) → TableRead
-on_entry (Said e next) k = k e next
-on_entry (Refused r) k = unsaid r
+abbrev pub on_entry : Result (Entry × ℕ) Refusal → (Entry → ℕ → Result (List Entry) Refusal) → Result (List Entry) Refusal
+on_entry (Ok (e, next)) k = k e next
+on_entry (Err r) k = Err r
 
 -- One axis before those that the rest says.
-abbrev pub before : Entry → TableRead → TableRead
-before e (says es) = says (e ∷ es)
-before e (unsaid r) = unsaid r
+abbrev pub before : Entry → Result (List Entry) Refusal → Result (List Entry) Refusal
+before e (Ok es) = Ok (e ∷ es)
+before e (Err r) = Err r
 
 -- Whether the end field stands at a place with nothing after it.
 unfoldable pub closes_at : List ℕ → ℕ → Bool
 closes_at s at = on_field false (field_at s at end_tag 0) (λ _ at. eqb (length s) at)
 
 -- So many entries from a place on, each with a number above the one before, the first with at least a number given; and then the end.
-unfoldable pub entries_at : ℕ → List ℕ → ℕ → ℕ → TableRead
-entries_at zero s at least = cond (closes_at s at) (says []) (unsaid Record)
+unfoldable pub entries_at : ℕ → List ℕ → ℕ → ℕ → Result (List Entry) Refusal
+entries_at zero s at least = cond (closes_at s at) (Ok []) (Err Record)
 entries_at (suc n) s at least = on_entry (entry_from s at least) (λ e at. before e (entries_at n s at (suc e.axis)))
 
--- What a reader answers to a slice, the whole of which is the record: the layout, the number of axes, and then the axes.
-unfoldable pub table_read_as : List ℕ → TableRead
+-- What a reader answers to a slice, the whole of which is the record: the layout, the number of axes, and then the axes, or why it is refused.
+unfoldable pub table_read_as : List ℕ → Result (List Entry) Refusal
 table_read_as s =
     cond (starts table_opening s)
-    (on_field (unsaid Record) (field_at s 5 count_tag 1) (λ n at.
-    cond (leb n most_axes) (entries_at n s at 0) (unsaid Value)))
-    (unsaid (layout_refusal s))
+    (on_field (Err Record) (field_at s 5 count_tag 1) (λ n at.
+    cond (leb n most_axes) (entries_at n s at 0) (Err Value)))
+    (Err (layout_refusal s))
 
 -- ---- the test of both layouts
 
 -- A test accepts what a reader accepts, and refuses as it does.
-abbrev pub tested_table : TableRead → Tested
-tested_table (says es) = Passed
-tested_table (unsaid r) = Failed r
+abbrev pub tested_table : Result (List Entry) Refusal → Result ⊤ Refusal
+tested_table (Ok es) = Ok tt
+tested_table (Err r) = Err r
 
 -- The test of both: a slice with layout 1's opening by layout 1's rules, and any other by those of layout 2.
-unfoldable pub tested_either : List ℕ → Tested
+unfoldable pub tested_either : List ℕ → Result ⊤ Refusal
 tested_either s = cond (starts opening s) (tested_as s) (tested_table (table_read_as s))
 
 -- ---- writing

@@ -2,19 +2,19 @@
 ghost use Rattle.std.specs.Prelude.{◌≡◌};
 ghost use Rattle.record_table.specs.TableRecord.{tested_either};
 
-use crate::reader::{Survey, read_table};
-use record::answer::Tested;
-use record::opening::opens;
+use crate::reader::read_table;
+use record::opening::OPENING;
+use refusal::Refusal;
+use tagged::bytes::starts_with;
 
 // Whether a slice is a record of layout 1 or of layout 2, each by its own rules, or why it is neither.
-pub fn test_any(slice: &[u8]) -> Tested
+#[tactic(auto, unfolding(crate::specs::TableRecord::tested_either), using(crate::proofs::SurveyLaws::tested_passes, crate::proofs::SurveyLaws::tested_fails))]
+pub fn test_any(slice: &[u8]) -> Result<(), Refusal>
     ensures { result ≡ tested_either slice.now }
 {
-    if opens(slice) {
+    if starts_with(slice, &OPENING) {
         return record::reader::test(slice);
     }
-    match read_table(slice) {
-        Survey::Accepted(_, _) => Tested::Accepted,
-        Survey::Refused(r) => Tested::Refused(r),
-    }
+    read_table(slice)?;
+    Ok(())
 }

@@ -6,8 +6,8 @@ ghost use Rattle.tagged.specs.Store.{Puts};
 ghost use Rattle.record_axis.specs.AxisFields.{front_bytes, axis_bytes, axis_length};
 ghost use Rattle.record.specs.Record.{SavedInto};
 
+use axis::config::Setting;
 use axis::kind::Kind;
-use record::answer::Written;
 use record::opening::OPENING;
 use record::tags::END;
 use record_axis::limits::is_within;
@@ -22,13 +22,11 @@ use tagged::twos::bits_of;
 pub fn axis_length(kind: u64) -> usize
     ensures { result ≡ axis_length kind }
 {
-    if Kind::is_counter(kind) {
-        return 19;
-    }
-    26
+    if Kind::is_counter(kind) { 19 } else { 26 }
 }
 
 // The kind and the position of an axis at at; answers where the next field begins.
+#[tactic(auto, unfolding(record_axis::specs::AxisFields::front_bytes, tagged::specs::Field::field_bytes, tagged::specs::Bytes::bytes_of), using(tagged::proofs::StoreLaws::puts_then))]
 fn put_front(buf: &mut [u8], at: usize, kind: u64, bits: u64) -> usize
     requires { at + 15 ≤ length buf.old }
     ensures { Puts (front_bytes kind bits) buf.old at buf.new result }
@@ -42,28 +40,27 @@ pub fn put_axis(buf: &mut [u8], at: usize, saved: Saved) -> usize
     requires { at + axis_length saved.config.kind ≤ length buf.old }
     ensures { Puts (axis_bytes saved) buf.old at buf.new result }
 {
-    let c = saved.config;
-    let kind = c.kind as u64;
-    let at = put_front(buf, at, kind, bits_of(saved.position));
-    if Kind::is_counter(kind) {
-        return put_field(buf, at, WIDTH, 1, c.width as u64);
+    let setting = Setting::from(saved.config);
+    let at = put_front(buf, at, setting.kind, bits_of(saved.position));
+    if Kind::is_counter(setting.kind) {
+        put_field(buf, at, WIDTH, 1, setting.width)
+    } else {
+        let at = put_field(buf, at, DEPTH, 1, setting.depth);
+        put_field(buf, at, TURN, 4, setting.turn)
     }
-    let at = put_field(buf, at, DEPTH, 1, c.depth as u64);
-    put_field(buf, at, TURN, 4, c.turn as u64)
 }
 
 // The record at the front of a buffer, or the buffer as it was.
-pub fn save(buf: &mut [u8], saved: Saved) -> Written
+pub fn save(buf: &mut [u8], saved: Saved) -> Result<usize, Refusal>
     ensures { SavedInto buf.old saved result buf.new }
 {
     if !is_within(saved) {
-        return Written::Refused(Refusal::Value);
+        return Err(Refusal::Value);
     }
-    let c = saved.config;
-    if buf.len() < 8 + axis_length(c.kind as u64) {
-        return Written::Refused(Refusal::Room);
+    if buf.len() < 8 + axis_length(u64::from(saved.config.kind)) {
+        return Err(Refusal::Room);
     }
     let at = put_bytes(buf, 0, &OPENING);
     let at = put_axis(buf, at, saved);
-    Written::Bytes(put_field(buf, at, END, 0, 0))
+    Ok(put_field(buf, at, END, 0, 0))
 }

@@ -1,3 +1,4 @@
+pub mod PassLaws
 pub mod RefusalLaws
 pub mod OutcomeLaws
 pub mod StatedLaws

@@ -5,7 +5,8 @@ use Prim.Native.Nat.{ℕ}
 use Rattle.refusal.specs.declared.Refusal.{Refusal}
 use Rattle.refusal.specs.declared.Refusal.TheVariants.{Length, Axis, Broken, Empty, Kind, Value}
 use Rattle.refusal.specs.declared.Refusal.TheVariants.{Half, Range, NoPeriod, Room, Layout, Record, Occupied}
-use Rattle.refusal.specs.Refusal.{number_of, found_in}
+use Rattle.std.specs.Prelude.{codes, ◌++◌, decimal}
+use Rattle.refusal.specs.Refusal.{number_of, found_in, name_of}
 use Rattle.refusal.specs.Order.{checked, restoring, restoring_all, place_in}
 
 -- The thirteen reasons by name, in the order of their numbers.
@@ -18,6 +19,12 @@ pub numbered : (n : ℕ) →
     (map number_of (names n) ≡ 1 ∷ 2 ∷ 3 ∷ 4 ∷ 5 ∷ 6 ∷ 7 ∷ 8 ∷ 9 ∷ 10 ∷ 11 ∷ 12 ∷ 13 ∷ [])
     × (map found_in (names n) ≡ 0 ∷ 0 ∷ 0 ∷ 0 ∷ 0 ∷ 0 ∷ 0 ∷ 0 ∷ 0 ∷ 0 ∷ n ∷ 0 ∷ 0 ∷ [])
 numbered n = (refl, refl)
+
+-- Their names in that order; that of LAYOUT ends in the number found.
+pub named : (n : ℕ) → map name_of (names n) ≡
+    codes "LENGTH" ∷ codes "AXIS" ∷ codes "BROKEN" ∷ codes "EMPTY" ∷ codes "KIND" ∷ codes "VALUE" ∷ codes "HALF" ∷ codes "RANGE"
+    ∷ codes "NO PERIOD" ∷ codes "ROOM" ∷ (codes "LAYOUT " ++ decimal n) ∷ codes "RECORD" ∷ codes "OCCUPIED" ∷ []
+named n = refl
 
 -- They are checked in the order of their numbers but for OCCUPIED, which comes after KIND and before VALUE; a number that is no reason's
 -- comes after all.

@@ -1,5 +1,5 @@
 -- The reasons for saying no: docs/RULES.md, "Reasons for saying no".
-use Rattle.std.specs.Prelude.{ℕ}
+use Rattle.std.specs.Prelude.{ℕ, List, ◌++◌, codes, decimal}
 use Rattle.refusal.specs.declared.Refusal.{Refusal}
 use Rattle.refusal.specs.declared.Refusal.TheVariants.{Length, Axis, Broken, Empty, Kind, Value}
 use Rattle.refusal.specs.declared.Refusal.TheVariants.{Half, Range, NoPeriod, Room, Layout, Record, Occupied}
@@ -35,3 +35,19 @@ found_in Room = 0
 found_in (Layout n) = n
 found_in Record = 0
 found_in Occupied = 0
+
+-- The name of each reason, as text; behind that of LAYOUT stands the number found.
+abbrev pub name_of : Refusal → List ℕ
+name_of Length = codes "LENGTH"
+name_of Axis = codes "AXIS"
+name_of Broken = codes "BROKEN"
+name_of Empty = codes "EMPTY"
+name_of Kind = codes "KIND"
+name_of Value = codes "VALUE"
+name_of Half = codes "HALF"
+name_of Range = codes "RANGE"
+name_of NoPeriod = codes "NO PERIOD"
+name_of Room = codes "ROOM"
+name_of (Layout n) = codes "LAYOUT " ++ decimal n
+name_of Record = codes "RECORD"
+name_of Occupied = codes "OCCUPIED"

@@ -1,4 +1,5 @@
 -- The laws of preset, arm and acknowledge: a sound row stays what it is, and holds the axis that the call makes.
+use Rattle.std.specs.Prelude.{Result, Ok, Err}
 use Prim.Native.Nat.{ℕ, ◌<◌, ◌^◌}
 use native.Mathlib.Omega.{arith}
 use mathlib.Core.Path.{◌≡◌, refl, sym, ap, subst}
@@ -22,7 +23,6 @@ use Rattle.axis.proofs.RowLaws.{comes_back, held_words}
 use Rattle.axis_sound.proofs.SoundLaws.{sampled_held, sampled_gives, sampled_from_lem, counter_held, counter_gives, counter_from_lem}
 use Rattle.row_calls.specs.Change.{changed, preset_axis, arm_axis, acknowledge_axis, Holds}
 use Rattle.row_calls.specs.Calls.{by_status, place_row, preset_row, arm_row, acknowledge_row}
-use Rattle.row_calls.specs.declared.answer.Changed.TheVariants.{To, Kept}
 use Rattle.row_calls.proofs.StatusLaws.{live}
 
 -- ---- axes
@@ -97,33 +97,33 @@ counter_holds a k =
     }
 
 -- A row that was made and the row that was told are one.
-pub to_one : {q r : Row} {s : Status} {a : Axis} → To r ≡ To q → Holds r s a → Holds q s a
+pub to_one : {q r : Row} {s : Status} {a : Axis} → ◌≡◌ {A = Result Row Refusal} (Ok r) (Ok q) → Holds r s a → Holds q s a
 to_one {q} {r} {s} {a} e h = let d : r ≡ q = cc in subst (λ (t : Row). Holds t s a) d h
 
 -- What is refused makes no row.
-pub kept_not : (q : Row) (e : Refusal) → Kept e ≡ To q → ⊥
+pub kept_not : (q : Row) (e : Refusal) → Err e ≡ Ok q → ⊥
 kept_not q e h = let z : ◌≡◌ {A = ℕ} 0 1 = cc in omega arith
 
 -- A preset that is accepted.
-pub placed : (p : ℤ) (r q : Row) → place_row p r ≡ To q → (in_range p ≡ true) × (To (row_of (preset_axis p (axis_of r))) ≡ To q)
+pub placed : (p : ℤ) (r q : Row) → place_row p r ≡ Ok q → (in_range p ≡ true) × (◌≡◌ {A = Result Row Refusal} (Ok (row_of (preset_axis p (axis_of r)))) (Ok q))
 unfolding place_row
 placed p r q e = go (test (in_range p))
   where
-    go : Decided (in_range p) → (in_range p ≡ true) × (To (row_of (preset_axis p (axis_of r))) ≡ To q)
+    go : Decided (in_range p) → (in_range p ≡ true) × (◌≡◌ {A = Result Row Refusal} (Ok (row_of (preset_axis p (axis_of r)))) (Ok q))
     go (yes i) = (i, rw i at e)
     go (no i) = absurd (kept_not q VALUE (rw i at e))
 
 -- A call on sampled rows only, that keeps a sampled axis one, keeps the row sampled.
 sampled_only : (change : Axis → Axis) → ((x : Axis) → SampledAxis x → SampledAxis (change x)) → (r q : Row) →
-    by_status Kept (To (row_of (change (axis_of r)))) (Kept KIND) (status_of r) ≡ To q → Holds q (status_of r) (change (axis_of r))
+    by_status Err (Ok (row_of (change (axis_of r)))) (Err KIND) (status_of r) ≡ Ok q → Holds q (status_of r) (change (axis_of r))
 sampled_only change keeps r q e =
     ⊎_elim
     (λ h. rw h.0 (to_one h.1 (sampled_holds (change (axis_of r)) (keeps (axis_of r) (sampled_gives r h.0)))))
     (λ h. absurd (kept_not q KIND h.1))
-    (live Kept (To (row_of (change (axis_of r)))) (Kept KIND) (To q) (kept_not q) (status_of r) e)
+    (live Err (Ok (row_of (change (axis_of r)))) (Err KIND) (Ok q) (kept_not q) (status_of r) e)
 
 -- A preset that is accepted leaves the row what it was, holding the axis with that position.
-pub preset_keeps : (p : ℤ) (r q : Row) → preset_row p r ≡ To q → Holds q (status_of r) (preset_axis p (axis_of r))
+pub preset_keeps : (p : ℤ) (r q : Row) → preset_row p r ≡ Ok q → Holds q (status_of r) (preset_axis p (axis_of r))
 unfolding preset_row
 preset_keeps p r q e =
     ⊎_elim
@@ -131,14 +131,14 @@ preset_keeps p r q e =
     rw h.0 (to_one t.1 (sampled_holds (preset_axis p (axis_of r)) (preset_sampled (axis_of r) p t.0 (sampled_gives r h.0)))))
     (λ h. let t = placed p r q h.1 in
     rw h.0 (to_one t.1 (counter_holds (preset_axis p (axis_of r)) (preset_counter (axis_of r) p t.0 (counter_gives r h.0)))))
-    (live Kept (place_row p r) (place_row p r) (To q) (kept_not q) (status_of r) e)
+    (live Err (place_row p r) (place_row p r) (Ok q) (kept_not q) (status_of r) e)
 
 -- An arm that is accepted leaves the row sampled, holding the armed axis.
-pub arm_keeps : (r q : Row) → arm_row r ≡ To q → Holds q (status_of r) (arm_axis (axis_of r))
+pub arm_keeps : (r q : Row) → arm_row r ≡ Ok q → Holds q (status_of r) (arm_axis (axis_of r))
 unfolding arm_row
 arm_keeps = sampled_only arm_axis arm_sampled
 
 -- An acknowledgement that is accepted leaves the row sampled, holding the acknowledged axis.
-pub acknowledge_keeps : (r q : Row) → acknowledge_row r ≡ To q → Holds q (status_of r) (acknowledge_axis (axis_of r))
+pub acknowledge_keeps : (r q : Row) → acknowledge_row r ≡ Ok q → Holds q (status_of r) (acknowledge_axis (axis_of r))
 unfolding acknowledge_row
 acknowledge_keeps = sampled_only acknowledge_axis acknowledge_sampled

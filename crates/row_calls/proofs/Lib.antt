@@ -1,4 +1,5 @@
 pub mod StatusLaws
+pub mod InUseLaws
 pub mod AnswerLaws
 pub mod ChangeLaws
 pub mod SetupLaws

@@ -1,5 +1,6 @@
 -- The laws of BROKEN, EMPTY and KIND, each answered exactly where the row is so, and of what is answered past them, which is never
 -- OCCUPIED.
+use Rattle.std.specs.Prelude.{Ok, Err}
 use Prim.Native.Nat.{ℕ}
 use mathlib.Core.Path.{◌≡◌, refl, sym, ap, ◌∙◌}
 use mathlib.Core.Logic.{◌↔◌, inl, inr}
@@ -23,7 +24,6 @@ use Rattle.row_calls.specs.Answer.{changed_number}
 use Rattle.row_calls.specs.Change.{preset_axis, arm_axis, acknowledge_axis}
 use Rattle.row_calls.specs.Calls.{by_status, place_row, preset_row, arm_row, acknowledge_row}
 use Rattle.row_calls.specs.Reasons.{StatusReasons}
-use Rattle.row_calls.specs.declared.answer.Changed.TheVariants.{To, Kept}
 use Rattle.row_calls.proofs.StatusLaws.{Live, either_kind}
 
 -- A number that is not another.
@@ -136,31 +136,31 @@ place_past p r = after_either checked changed_number OCCUPIED (in_range p) _ _ (
 -- Preset takes both kinds.
 pub preset_reasons : (p : ℤ) (r : Row) → StatusReasons (changed_number (preset_row p r)) (status_of r) ⊥
 unfolding preset_row
-preset_reasons p r = both_kinds changed_number Kept (λ e. refl) (place_row p r) (place_row p r) (place_past p r) (place_past p r) (status_of r)
+preset_reasons p r = both_kinds changed_number Err (λ e. refl) (place_row p r) (place_row p r) (place_past p r) (place_past p r) (status_of r)
 
 -- Arm takes sampled rows.
 pub arm_reasons : (r : Row) → StatusReasons (changed_number (arm_row r)) (status_of r) (status_of r ≡ Counter)
 unfolding arm_row Past
-arm_reasons r = sampled_only changed_number Kept (λ e. refl) (To (row_of (arm_axis (axis_of r)))) (inl refl) (status_of r)
+arm_reasons r = sampled_only changed_number Err (λ e. refl) (Ok (row_of (arm_axis (axis_of r)))) (inl refl) (status_of r)
 
 -- Acknowledge takes sampled rows.
 pub acknowledge_reasons : (r : Row) → StatusReasons (changed_number (acknowledge_row r)) (status_of r) (status_of r ≡ Counter)
 unfolding acknowledge_row Past
-acknowledge_reasons r = sampled_only changed_number Kept (λ e. refl) (To (row_of (acknowledge_axis (axis_of r)))) (inl refl) (status_of r)
+acknowledge_reasons r = sampled_only changed_number Err (λ e. refl) (Ok (row_of (acknowledge_axis (axis_of r)))) (inl refl) (status_of r)
 
 -- ---- what each call does on the rows that it takes
 
 -- On a sampled row and on a counter a preset within the range is accepted, and any other is VALUE.
-pub preset_is : (p : ℤ) (r : Row) → Live r → preset_row p r ≡ cond (in_range p) (To (row_of (preset_axis p (axis_of r)))) (Kept VALUE)
+pub preset_is : (p : ℤ) (r : Row) → Live r → preset_row p r ≡ cond (in_range p) (Ok (row_of (preset_axis p (axis_of r)))) (Err VALUE)
 unfolding preset_row place_row
-preset_is p r l = either_kind Kept (place_row p r) r l
+preset_is p r l = either_kind Err (place_row p r) r l
 
 -- On a sampled row arm is accepted.
-pub arm_is : (r : Row) → status_of r ≡ Sampled → arm_row r ≡ To (row_of (arm_axis (axis_of r)))
+pub arm_is : (r : Row) → status_of r ≡ Sampled → arm_row r ≡ Ok (row_of (arm_axis (axis_of r)))
 unfolding arm_row
 arm_is r e = rw e
 
 -- On a sampled row acknowledge is accepted.
-pub acknowledge_is : (r : Row) → status_of r ≡ Sampled → acknowledge_row r ≡ To (row_of (acknowledge_axis (axis_of r)))
+pub acknowledge_is : (r : Row) → status_of r ≡ Sampled → acknowledge_row r ≡ Ok (row_of (acknowledge_axis (axis_of r)))
 unfolding acknowledge_row
 acknowledge_is r e = rw e

@@ -1,4 +1,5 @@
 -- What docs/RULES.md states of setup, erase, preset, arm and acknowledge, computed to its end, word by word: "Calls that name one axis".
+use Rattle.std.specs.Prelude.{Result, Ok, Err}
 use Prim.Native.Nat.{ℕ, ◌+◌, ◌-◌, ◌*◌, ◌^◌}
 use mathlib.Core.Path.{◌≡◌, refl}
 use mathlib.Core.List.{List, [], ◌∷◌, map}
@@ -12,9 +13,7 @@ use Rattle.axis_sound.specs.Sound.{status_of}
 use Rattle.row_calls.specs.Answer.{done_of, changed_number, done_found}
 use Rattle.row_calls.specs.Change.{changed}
 use Rattle.row_calls.specs.Calls.{left_by, and_then, setup_row, erase_row, place_row, preset_row, arm_row, acknowledge_row, change_row}
-use Rattle.row_calls.specs.declared.apply.Change.TheVariants.{Setup, Erase, Preset, Arm, Acknowledge}
-use Rattle.row_calls.specs.declared.answer.Changed.{Changed}
-use Rattle.row_calls.specs.declared.answer.Changed.TheVariants.{To, Kept}
+use Rattle.row_calls.specs.Calls.{Setup, Erase, Preset, Arm, Acknowledge}
 
 -- ---- the form of every law of this kind
 
@@ -79,21 +78,21 @@ broken = words 0 0 0 1
 -- Setup makes 2^62, the configuration and zeros of an empty row, or is VALUE there; where one bit of one word is set, or more, it is
 -- OCCUPIED, whatever its numbers. Erase makes four zero words of any row, and then a setup is accepted.
 pub setup_stated : AsStated (
-    (change_row (Setup 4 3 0 4096) empty is To (words (2 ^ 62) 52 0 4096))
-    ∷ (change_row (Setup 1 1 0 0) empty is To (words (2 ^ 62) 17 0 0))
-    ∷ (change_row (Setup 2 8 0 4294967295) empty is To (words (2 ^ 62) 130 0 4294967295))
-    ∷ (change_row (Setup 8 0 32 0) empty is To (words (2 ^ 62) 8200 0 0))
-    ∷ (change_row (Setup 4 9 0 4096) empty is Kept Value)
-    ∷ (change_row (Setup 4 3 0 4096) (words 1 0 0 0) is Kept Occupied)
-    ∷ (change_row (Setup 4 3 0 4096) (words 0 1 0 0) is Kept Occupied)
-    ∷ (change_row (Setup 4 3 0 4096) (words 0 0 1 0) is Kept Occupied)
-    ∷ (change_row (Setup 4 3 0 4096) broken is Kept Occupied)
-    ∷ (change_row (Setup 2 8 0 4294967295) (counter 1) is Kept Occupied)
-    ∷ (change_row (Setup 8 0 32 0) (busy 7 PRIMED 300) is Kept Occupied)
-    ∷ (change_row (Setup 4 9 0 4096) (busy 7 PRIMED 300) is Kept Occupied)
-    ∷ (change_row Erase broken is To (words 0 0 0 0))
-    ∷ (change_row Erase (busy 7 PRIMED 300) is To (words 0 0 0 0))
-    ∷ (and_then (change_row Erase (busy 7 PRIMED 300)) (change_row (Setup 8 0 32 0)) is To (words (2 ^ 62) 8200 0 0))
+    (change_row (Setup 4 3 0 4096) empty is Ok (words (2 ^ 62) 52 0 4096))
+    ∷ (change_row (Setup 1 1 0 0) empty is Ok (words (2 ^ 62) 17 0 0))
+    ∷ (change_row (Setup 2 8 0 4294967295) empty is Ok (words (2 ^ 62) 130 0 4294967295))
+    ∷ (change_row (Setup 8 0 32 0) empty is Ok (words (2 ^ 62) 8200 0 0))
+    ∷ (change_row (Setup 4 9 0 4096) empty is Err Value)
+    ∷ (change_row (Setup 4 3 0 4096) (words 1 0 0 0) is Err Occupied)
+    ∷ (change_row (Setup 4 3 0 4096) (words 0 1 0 0) is Err Occupied)
+    ∷ (change_row (Setup 4 3 0 4096) (words 0 0 1 0) is Err Occupied)
+    ∷ (change_row (Setup 4 3 0 4096) broken is Err Occupied)
+    ∷ (change_row (Setup 2 8 0 4294967295) (counter 1) is Err Occupied)
+    ∷ (change_row (Setup 8 0 32 0) (busy 7 PRIMED 300) is Err Occupied)
+    ∷ (change_row (Setup 4 9 0 4096) (busy 7 PRIMED 300) is Err Occupied)
+    ∷ (change_row Erase broken is Ok (words 0 0 0 0))
+    ∷ (change_row Erase (busy 7 PRIMED 300) is Ok (words 0 0 0 0))
+    ∷ (and_then (change_row Erase (busy 7 PRIMED 300)) (change_row (Setup 8 0 32 0)) is Ok (words (2 ^ 62) 8200 0 0))
     ∷ [])
 unfolding good_config setup_row erase_row
 setup_stated = refl
@@ -102,26 +101,26 @@ setup_stated = refl
 -- doubles to 0 and clears INDEX; every other bit stays. An empty row is EMPTY, a broken one BROKEN, and a counter KIND to arm and
 -- acknowledge; a position out of its range is VALUE after these.
 pub change_stated : AsStated (
-    (change_row (Preset (pos 7)) (busy 9 (PRIMED + ARMED + RANGE + INDEX) 300) is To (busy (2 ^ 62 + 7) (PRIMED + ARMED + INDEX) 300))
-    ∷ (change_row (Preset (negsuc 6)) (busy 9 (PRIMED + HOMED + RANGE + INDEX) 300) is To (busy (2 ^ 62 - 7) (PRIMED + INDEX) 300))
-    ∷ (change_row (Preset (pos (2 ^ 62 - 1))) (idle 9 ARMED) is To (idle (2 ^ 63 - 1) ARMED))
-    ∷ (change_row (Preset (negsuc (2 ^ 62 - 2))) (counter 9) is To (counter 1))
-    ∷ (change_row (Preset (pos (2 ^ 62))) (counter 9) is Kept Value)
-    ∷ (change_row (Preset (negsuc (2 ^ 62 - 1))) (busy 9 PRIMED 0) is Kept Value)
-    ∷ (change_row (Preset (pos (2 ^ 62))) empty is Kept Empty)
-    ∷ (change_row (Preset (pos (2 ^ 62))) broken is Kept Broken)
-    ∷ (change_row Arm (busy 9 (PRIMED + HOMED + RANGE + INDEX) 300) is To (busy 9 (PRIMED + ARMED + RANGE + INDEX) 300))
-    ∷ (change_row Arm (busy 9 PRIMED 300) is To (busy 9 (PRIMED + ARMED) 300))
-    ∷ (change_row Arm (idle 9 0) is To (idle 9 ARMED))
-    ∷ (change_row Arm empty is Kept Empty)
-    ∷ (change_row Arm broken is Kept Broken)
-    ∷ (change_row Arm (counter 9) is Kept Kind)
-    ∷ (change_row Acknowledge (busy 9 (PRIMED + HOMED + RANGE + INDEX) 300) is To (busy 9 (PRIMED + HOMED + RANGE) 0))
-    ∷ (change_row Acknowledge (busy 9 (PRIMED + ARMED) 65535) is To (busy 9 (PRIMED + ARMED) 0))
-    ∷ (change_row Acknowledge (idle 9 ARMED) is To (idle 9 ARMED))
-    ∷ (change_row Acknowledge empty is Kept Empty)
-    ∷ (change_row Acknowledge broken is Kept Broken)
-    ∷ (change_row Acknowledge (counter 9) is Kept Kind)
+    (change_row (Preset (pos 7)) (busy 9 (PRIMED + ARMED + RANGE + INDEX) 300) is Ok (busy (2 ^ 62 + 7) (PRIMED + ARMED + INDEX) 300))
+    ∷ (change_row (Preset (negsuc 6)) (busy 9 (PRIMED + HOMED + RANGE + INDEX) 300) is Ok (busy (2 ^ 62 - 7) (PRIMED + INDEX) 300))
+    ∷ (change_row (Preset (pos (2 ^ 62 - 1))) (idle 9 ARMED) is Ok (idle (2 ^ 63 - 1) ARMED))
+    ∷ (change_row (Preset (negsuc (2 ^ 62 - 2))) (counter 9) is Ok (counter 1))
+    ∷ (change_row (Preset (pos (2 ^ 62))) (counter 9) is Err Value)
+    ∷ (change_row (Preset (negsuc (2 ^ 62 - 1))) (busy 9 PRIMED 0) is Err Value)
+    ∷ (change_row (Preset (pos (2 ^ 62))) empty is Err Empty)
+    ∷ (change_row (Preset (pos (2 ^ 62))) broken is Err Broken)
+    ∷ (change_row Arm (busy 9 (PRIMED + HOMED + RANGE + INDEX) 300) is Ok (busy 9 (PRIMED + ARMED + RANGE + INDEX) 300))
+    ∷ (change_row Arm (busy 9 PRIMED 300) is Ok (busy 9 (PRIMED + ARMED) 300))
+    ∷ (change_row Arm (idle 9 0) is Ok (idle 9 ARMED))
+    ∷ (change_row Arm empty is Err Empty)
+    ∷ (change_row Arm broken is Err Broken)
+    ∷ (change_row Arm (counter 9) is Err Kind)
+    ∷ (change_row Acknowledge (busy 9 (PRIMED + HOMED + RANGE + INDEX) 300) is Ok (busy 9 (PRIMED + HOMED + RANGE) 0))
+    ∷ (change_row Acknowledge (busy 9 (PRIMED + ARMED) 65535) is Ok (busy 9 (PRIMED + ARMED) 0))
+    ∷ (change_row Acknowledge (idle 9 ARMED) is Ok (idle 9 ARMED))
+    ∷ (change_row Acknowledge empty is Err Empty)
+    ∷ (change_row Acknowledge broken is Err Broken)
+    ∷ (change_row Acknowledge (counter 9) is Err Kind)
     ∷ [])
 unfolding in_range word_of status_of changed place_row preset_row arm_row acknowledge_row
 change_stated = refl
@@ -130,18 +129,18 @@ change_stated = refl
 
 -- Done is 0, a refusal its number, and LAYOUT the number found besides.
 pub answer_stated : AsStated (
-    (changed_number (To broken) is 0)
-    ∷ (done_found (done_of (To broken)) is 0)
-    ∷ (changed_number (Kept Value) is 6)
-    ∷ (done_found (done_of (Kept Value)) is 0)
-    ∷ (changed_number (Kept Occupied) is 13)
-    ∷ (done_found (done_of (Kept Occupied)) is 0)
-    ∷ (changed_number (Kept (Layout 7)) is 11)
-    ∷ (done_found (done_of (Kept (Layout 7))) is 7)
+    (changed_number (Ok broken) is 0)
+    ∷ (done_found (done_of (Ok broken)) is 0)
+    ∷ (changed_number (Err Value) is 6)
+    ∷ (done_found (done_of (Err Value)) is 0)
+    ∷ (changed_number (Err Occupied) is 13)
+    ∷ (done_found (done_of (Err Occupied)) is 0)
+    ∷ (changed_number (Err (Layout 7)) is 11)
+    ∷ (done_found (done_of (Err (Layout 7))) is 7)
     ∷ [])
 answer_stated = refl
 
 -- A call that makes a row leaves that one, and the next call takes it; a refused one leaves the row as it was, and its refusal stands.
-pub left_stated : (r q : Row) (e : Refusal) (next : Row → Changed) →
-    (left_by r (To q) ≡ q) × (left_by r (Kept e) ≡ r) × (and_then (To q) next ≡ next q) × (and_then (Kept e) next ≡ Kept e)
+pub left_stated : (r q : Row) (e : Refusal) (next : Row → Result Row Refusal) →
+    (left_by r (Ok q) ≡ q) × (left_by r (Err e) ≡ r) × (and_then (Ok q) next ≡ next q) × (and_then (Err e) next ≡ Err e)
 left_stated r q e next = (refl, refl, refl, refl)

@@ -1,4 +1,5 @@
 -- The laws of a narrow counter through time: its position is the shaft's, once over the width and any number of readings.
+use Rattle.std.specs.Prelude.{Ok}
 use Prim.Native.Nat.{ℕ, ◌*◌, ◌^◌, ◌<◌}
 use mathlib.Core.Path.{◌≡◌, sym, ap, ◌∙◌}
 use mathlib.Core.Bool.{true}
@@ -8,7 +9,6 @@ use borrow.Author.Tests.{le-leb}
 use Rattle.position.specs.Position.{in_range, word_of, position_of}
 use Rattle.position.proofs.PositionLaws.{position_in_range, position_word, word_position}
 use Rattle.reckon.specs.Widening.{good_width}
-use Rattle.reckon.specs.declared.Reckoned.TheVariants.{Number}
 use Rattle.reckon.proofs.NearestLaws.{true_position}
 use Rattle.axis.specs.Row.{axis_of, fresh_at}
 use Rattle.axis_sound.specs.Sound.{status_of, CounterAxis, counter_of}
@@ -43,7 +43,7 @@ module _ (w : ℕ) (W : ℤ) (q : Row) (at : CounterAt w W q) (okW : in_range W 
   good = rw (le-leb 2 w (rw wide at counter.narrow), le-leb w 32 (rw wide at counter.wide))
 
   -- The reading answers the true position.
-  one_answer : reading_row (low_bits w p) q ≡ Number p
+  one_answer : reading_row (low_bits w p) q ≡ Ok p
   unfolding reading_row
   one_answer =
       rw at.status
@@ -86,6 +86,6 @@ module _ (r : Row) (counter : status_of r ≡ Counter) where
       ap (λ (a : Axis). position_of a.word) (counter_follows g).axis ∙ position_word (newest start ps) (newest_in_range g)
 
   -- And each reading is accepted and answers the true position.
-  pub counter_answers : {p : ℤ} {ps : List ℤ} → UnderHalf bits start (p ∷ ps) → reading_row (low_bits bits p) (row_read bits r ps) ≡ Number p
+  pub counter_answers : {p : ℤ} {ps : List ℤ} → UnderHalf bits start (p ∷ ps) → reading_row (low_bits bits p) (row_read bits r ps) ≡ Ok p
   counter_answers (polled p ps ok near g) =
       one_answer bits (newest start ps) (row_read bits r ps) (counter_follows g) (newest_in_range g) p ok near

@@ -1,6 +1,7 @@
 -- The laws of a reading: its reasons, what it answers on a counter, and the row that it leaves.
+use Rattle.std.specs.Prelude.{Result, Ok, Err}
 use Prim.Native.Nat.{ℕ}
-use mathlib.Core.Path.{◌≡◌, refl, ap}
+use mathlib.Core.Path.{◌≡◌, refl, sym, ap, ◌∙◌}
 use mathlib.Core.Logic.{inl, inr, ⊎_elim}
 use mathlib.Core.Bool.{true}
 use lib.Dec.{lit<}
@@ -11,25 +12,23 @@ use Rattle.refusal.specs.declared.Refusal.TheVariants.{Kind as KIND}
 use Rattle.reckon.specs.Reckoned.{refusal_in}
 use Rattle.reckon.specs.Widening.{widened}
 use Rattle.reckon.specs.Nearest.{Verdict, value, half, range, at}
-use Rattle.reckon.specs.declared.Reckoned.{Reckoned}
-use Rattle.reckon.specs.declared.Reckoned.TheVariants.{Number, Refused}
 use Rattle.reckon.proofs.NearestLaws.{verdict, nearest}
 use Rattle.reckon.proofs.ReckonedLaws.{refused_not}
 use Rattle.axis.specs.Row.{axis_of, fresh_at}
 use Rattle.axis.specs.declared.row.Axis.{Axis}
 use Rattle.axis.specs.declared.row.Row.{Row}
-use Rattle.axis_sound.specs.Sound.{status_of, low_row, CounterAxis, counter_of}
-use Rattle.axis_open.specs.declared.Opened.{Opened}
+use Rattle.axis_sound.specs.Sound.{status_of, CounterAxis, counter_of}
 use Rattle.axis_sound.specs.declared.Status.TheVariants.{Sampled, Counter}
 use Rattle.axis_sound.proofs.SoundLaws.{counter_gives}
 use Rattle.row_calls.specs.Change.{changed, Holds}
-use Rattle.row_calls.specs.Calls.{by_status}
+use Rattle.row_calls.specs.Calls.{axis_counting}
 use Rattle.row_calls.specs.Reasons.{StatusReasons}
-use Rattle.row_calls.specs.declared.answer.Changed.TheVariants.{To}
 use Rattle.row_calls.proofs.StatusLaws.{live}
+use Rattle.row_calls.proofs.InUseLaws.{counting_goes}
 use Rattle.row_calls.proofs.ChangeLaws.{counter_moved, counter_holds, to_one, kept_not}
 use Rattle.row_calls.proofs.ReasonLaws.{Past, counters_only}
 use Rattle.row_counter.specs.Reading.{read_axis, reading_of, reading_row, stored_row, read_row}
+use Rattle.refusal.specs.declared.Refusal.{Refusal}
 
 -- ---- reasons, before all else: an answer with VALUE before KIND is refused here
 
@@ -48,7 +47,7 @@ pub reading_reasons : (x : ℕ) (r : Row) → StatusReasons (refusal_in (reading
 unfolding reading_row
 reading_reasons x r =
     let a = axis_of r in
-    counters_only refusal_in Refused (λ e. refl) (reading_of x a) (reading_past a.config.width (position_of a.word) x) (status_of r)
+    counters_only refusal_in Err (λ e. refl) (reading_of x a) (reading_past a.config.width (position_of a.word) x) (status_of r)
 
 -- On a counter a reading is widened from the counter's width and position, with the refusals of that call.
 pub reading_is : (x : ℕ) (r : Row) → status_of r ≡ Counter →
@@ -56,25 +55,24 @@ pub reading_is : (x : ℕ) (r : Row) → status_of r ≡ Counter →
 unfolding reading_row
 reading_is x r e = rw e
 
--- What is answered of an opened row is the answer of the row.
-pub opened_reading : (x : ℕ) (r : Row) (o : Opened) → (o.status ≡ status_of r) × (o.axis ≡ axis_of (low_row r)) →
-    by_status Refused (Refused KIND) (reading_of x o.axis) o.status ≡ reading_row x r
+-- What is widened from the axis of a counter is the row's answer.
+pub counted_reading : (x : ℕ) (r : Row) {a : Axis} {n : Result ℤ Refusal} → axis_counting r ≡ Ok a → n ≡ reading_of x a → reading_row x r ≡ n
 unfolding reading_row
-opened_reading x r o h = λ i. by_status Refused (Refused KIND) (reading_of x (h.1 i)) (h.0 i)
+counted_reading x r h e = sym (e ∙ counting_goes Err (reading_of x) (Err KIND) r h)
 
 -- ---- a reading that is accepted
 
 -- A reading that is accepted was one of a counter row.
-pub read_counter : (x : ℕ) (r : Row) (p : ℤ) → reading_row x r ≡ Number p → (status_of r ≡ Counter) × (reading_of x (axis_of r) ≡ Number p)
+pub read_counter : (x : ℕ) (r : Row) (p : ℤ) → reading_row x r ≡ Ok p → (status_of r ≡ Counter) × (reading_of x (axis_of r) ≡ Ok p)
 unfolding reading_row
 read_counter x r p e =
     ⊎_elim
     (λ h. absurd (refused_not p KIND h.1))
     (λ h. h)
-    (live Refused (Refused KIND) (reading_of x (axis_of r)) (Number p) (refused_not p) (status_of r) e)
+    (live Err (Err KIND) (reading_of x (axis_of r)) (Ok p) (refused_not p) (status_of r) e)
 
 -- A position that was read is in the range.
-pub read_in_range : (x : ℕ) (r : Row) (p : ℤ) → reading_row x r ≡ Number p → in_range p ≡ true
+pub read_in_range : (x : ℕ) (r : Row) (p : ℤ) → reading_row x r ≡ Ok p → in_range p ≡ true
 read_in_range x r p e =
     let a = axis_of r in
     (nearest a.config.width (position_of a.word) p x (read_counter x r p e).1).0
@@ -89,14 +87,14 @@ pub read_kept : (x : Axis) (p : ℤ) → in_range p ≡ true → CounterAxis x �
 read_kept x p i k = counter_moved x (word_of p) (word_holds p i) k (read_axis p x) (read_at x p k)
 
 -- A reading that is accepted stores the position that it answers, and leaves a counter row a counter.
-pub read_keeps : (x : ℕ) (r q : Row) → read_row x r ≡ To q →
-    (p : ℤ) × (reading_row x r ≡ Number p) × Holds q (status_of r) (read_axis p (axis_of r))
+pub read_keeps : (x : ℕ) (r q : Row) → read_row x r ≡ Ok q →
+    (p : ℤ) × (reading_row x r ≡ Ok p) × Holds q (status_of r) (read_axis p (axis_of r))
 unfolding read_row stored_row
 read_keeps x r q e = go (reading_row x r) refl e
   where
-    go : (n : Reckoned) → reading_row x r ≡ n → stored_row r n ≡ To q →
-        (p : ℤ) × (reading_row x r ≡ Number p) × Holds q (status_of r) (read_axis p (axis_of r))
-    go (Number p) h k =
+    go : (n : Result ℤ Refusal) → reading_row x r ≡ n → stored_row r n ≡ Ok q →
+        (p : ℤ) × (reading_row x r ≡ Ok p) × Holds q (status_of r) (read_axis p (axis_of r))
+    go (Ok p) h k =
         let c = (read_counter x r p h).0 in
         (p, h, rw c (to_one k (counter_holds (read_axis p (axis_of r)) (read_kept (axis_of r) p (read_in_range x r p h) (counter_gives r c)))))
-    go (Refused f) h k = absurd (kept_not q f k)
+    go (Err f) h k = absurd (kept_not q f k)

@@ -15,7 +15,7 @@ use axis_sample::step::step_axis;
 use axis_sound::is_sampled;
 
 // The row after a sample, and its bits of the answer.
-#[derive(Clone, Copy)]
+#[derive(Clone, Copy, Debug, PartialEq, Eq)]
 pub struct SteppedRow {
     pub row: Row,
     pub double: bool,
@@ -29,9 +29,8 @@ fn step_sampled(x: Axis, nibble: u64) -> SteppedRow
     ensures { result ≡ packed (step_axis x (raw_of nibble)) }
 {
     let stepped = step_axis(x, raw_of(nibble));
-    let axis = stepped.axis;
     SteppedRow {
-        row: pack(axis),
+        row: pack(stepped.axis),
         double: stepped.double,
         index: stepped.index,
         broken: false,
@@ -56,7 +55,8 @@ pub fn step_row(r: Row, nibble: u64) -> SteppedRow
 {
     let axis = axis_in(r);
     if is_sampled(r, axis) {
-        return step_sampled(axis, nibble);
+        step_sampled(axis, nibble)
+    } else {
+        keep(r, is_broken(r))
     }
-    keep(r, is_broken(r))
 }

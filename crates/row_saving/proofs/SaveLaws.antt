@@ -1,4 +1,5 @@
 -- The laws of save and restore.
+use Rattle.std.specs.Prelude.{Result, Ok, Err}
 use Prim.Native.Nat.{ℕ, ◌≤◌, ◌^◌}
 use native.Mathlib.Omega.{arith}
 use mathlib.Core.Path.{◌≡◌, refl, sym, ap, subst, ◌∙◌}
@@ -34,9 +35,6 @@ use Rattle.record.specs.Order.{Judged, other_layout, bad_nine, bad_kind, bad_res
 use Rattle.record_axis.specs.Limits.{within_limits}
 use Rattle.record.specs.Record.{read_as, record_of, saved_as, written}
 use Rattle.record_axis.specs.declared.saved.Saved.{Saved}
-use Rattle.record.specs.declared.answer.Read.{Read}
-use Rattle.record.specs.declared.answer.Read.TheVariants.{Accepted, Refused as Unread}
-use Rattle.record.specs.declared.answer.Written.TheVariants.{Bytes, Refused as Unwritten}
 use Rattle.record_axis.proofs.LimitsLaws.{within_parts}
 use Rattle.record.proofs.OrderLaws.{exactly}
 use Rattle.record.proofs.RecordLaws.{read_back, one_encoding, accepted_within, saved_front}
@@ -45,7 +43,6 @@ use Rattle.row_calls.specs.Reasons.{StatusReasons}
 use Rattle.row_calls.specs.Answer.{changed_number}
 use Rattle.row_calls.specs.Calls.{and_then, on_empty, place_row, preset_row, setup_row}
 use Rattle.row_saving.specs.Saving.{saved_of, save_row, saved_in, is_read, said_row, restored_by, restore_row}
-use Rattle.row_calls.specs.declared.answer.Changed.TheVariants.{To, Kept}
 use Rattle.row_calls.proofs.StatusLaws.{live, Live, live_position, made_live, either_kind}
 use Rattle.row_calls.proofs.ChangeLaws.{to_one, kept_not}
 use Rattle.row_calls.proofs.ReasonLaws.{Past, both_kinds}
@@ -62,7 +59,7 @@ said_holds said e =
 
 -- What a record says, in an empty row alone, is a setup with its configuration and then a preset to its position, on every row.
 pub said_sets_up : (said : Saved) → within_limits said ≡ true → (r : Row) →
-    on_empty (To (said_row said)) r
+    on_empty (Ok (said_row said)) r
     ≡ and_then (setup_row said.config.kind said.config.depth said.config.width said.config.turn r) (preset_row
     said.position)
 unfolding setup_row preset_row place_row changed
@@ -72,35 +69,35 @@ said_sets_up said limits r = go (test (is_empty r))
     c = said.config
 
     go : Decided (is_empty r) →
-        on_empty (To (said_row said)) r ≡ and_then (setup_row c.kind c.depth c.width c.turn r) (preset_row said.position)
+        on_empty (Ok (said_row said)) r ≡ and_then (setup_row c.kind c.depth c.width c.turn r) (preset_row said.position)
     go (no h) = rw h
     go (yes h) =
         let p = said.position in
         let parts = within_parts said limits in
         let new = config_holds c (2 ^ 62) parts.0 origin_holds in
-        let set : place_row p (row_of (fresh c)) ≡ To (said_row said) =
-        rw parts.1 (ap (λ (x : Axis). To (row_of (preset_axis p x))) new.axis) in
-        rw (h, parts.0) (sym (either_kind Kept (place_row p (row_of (fresh c))) (row_of (fresh c))
+        let set : place_row p (row_of (fresh c)) ≡ Ok (said_row said) =
+        rw parts.1 (ap (λ (x : Axis). Ok (row_of (preset_axis p x))) new.axis) in
+        rw (h, parts.0) (sym (either_kind Err (place_row p (row_of (fresh c))) (row_of (fresh c))
         (made_live (row_of (fresh c)) (sampled_kind c.kind) new.status) ∙ set))
 
 -- A restore is refused where the record is, for the same reason, whatever the row holds.
-pub restore_refused : (s : List ℕ) (e : Refusal) (r : Row) → read_as s ≡ Unread e → restore_row s r ≡ Kept e
+pub restore_refused : (s : List ℕ) (e : Refusal) (r : Row) → read_as s ≡ Err e → restore_row s r ≡ Err e
 unfolding restore_row restored_by
 restore_refused s e r h = rw h
 
-module _ (s : List ℕ) (said : Saved) (r : Row) (a : read_as s ≡ Accepted said) where
+module _ (s : List ℕ) (said : Saved) (r : Row) (a : read_as s ≡ Ok said) where
   -- A record that is accepted wants an empty row.
-  accepted_is : restore_row s r ≡ on_empty (To (said_row said)) r
+  accepted_is : restore_row s r ≡ on_empty (Ok (said_row said)) r
   unfolding restore_row restored_by
   accepted_is = rw a
 
   -- It is put there.
-  pub restore_done : status_of r ≡ Empty → restore_row s r ≡ To (said_row said)
+  pub restore_done : status_of r ≡ Empty → restore_row s r ≡ Ok (said_row said)
   restore_done e = accepted_is ∙ on_empty_lem _ r e
 
   -- A restore that is accepted makes a sampled row or a counter, by its kind, with the configuration and the position that the record
   -- says.
-  pub restore_makes : (q : Row) → restore_row s r ≡ To q →
+  pub restore_makes : (q : Row) → restore_row s r ≡ Ok q →
       Holds q (cond (sampled_kind said.config.kind) Sampled Counter) (fresh_at said.config (word_of said.position))
   restore_makes q e = to_one (empty_taken _ r q (sym accepted_is ∙ e)).1 (said_holds said (accepted_within s said a))
 
@@ -111,17 +108,17 @@ module _ (s : List ℕ) (said : Saved) (r : Row) (a : read_as s ≡ Accepted sai
   restore_is = accepted_is ∙ said_sets_up said (accepted_within s said a) r
 
 -- What a restore of a row that is not empty is refused for: the record's own reason, or OCCUPIED.
-abbrev pub held_by : Read → Refusal
-held_by (Accepted s) = OCCUPIED
-held_by (Unread e) = e
+abbrev pub held_by : Result Saved Refusal → Refusal
+held_by (Ok s) = OCCUPIED
+held_by (Err e) = e
 
 -- It is refused.
-pub restore_full : (s : List ℕ) (r : Row) → (status_of r ≡ Empty → ⊥) → restore_row s r ≡ Kept (held_by (read_as s))
+pub restore_full : (s : List ℕ) (r : Row) → (status_of r ≡ Empty → ⊥) → restore_row s r ≡ Err (held_by (read_as s))
 restore_full s r full = go (read_as s) refl
   where
-    go : (n : Read) → read_as s ≡ n → restore_row s r ≡ Kept (held_by n)
-    go (Accepted said) h = accepted_is s said r h ∙ on_occupied _ r full
-    go (Unread e) h = restore_refused s e r h
+    go : (n : Result Saved Refusal) → read_as s ≡ n → restore_row s r ≡ Err (held_by n)
+    go (Ok said) h = accepted_is s said r h ∙ on_occupied _ r full
+    go (Err e) h = restore_refused s e r h
 
 -- ---- what is saved
 
@@ -152,9 +149,9 @@ bytes r = record_of (saved_of (axis_of r))
 
 module _ (r : Row) (l : Live r) where
   -- A save of a sampled row or a counter answers the length of its record, or ROOM where the buffer is shorter; never VALUE.
-  pub save_answers : (room : ℕ) → save_row room r ≡ cond (leb (length (bytes r)) room) (Bytes (length (bytes r))) (Unwritten ROOM)
+  pub save_answers : (room : ℕ) → save_row room r ≡ cond (leb (length (bytes r)) room) (Ok (length (bytes r))) (Err ROOM)
   unfolding save_row saved_as
-  save_answers room = either_kind Unwritten (saved_as room (saved_of (axis_of r))) r l ∙ rw (saved_within r l)
+  save_answers room = either_kind Err (saved_as room (saved_of (axis_of r))) r l ∙ rw (saved_within r l)
 
   -- It writes that record at the front of the buffer and leaves the rest as it was.
   pub save_front : (b : List ℕ) → length (bytes r) ≤ length b → saved_in b r ≡ bytes r ++ drop (length (bytes r)) b
@@ -163,27 +160,27 @@ module _ (r : Row) (l : Live r) where
       either_kind (λ _. b) (written b (saved_of (axis_of r))) r l ∙ saved_front b (saved_of (axis_of r)) (saved_within r l) h
 
 -- A save that is not refused is one of a sampled row or a counter, and answers the length of its record, for which there is room.
-saved_live : (room n : ℕ) (r : Row) → save_row room r ≡ Bytes n → Live r
+saved_live : (room n : ℕ) (r : Row) → save_row room r ≡ Ok n → Live r
 unfolding save_row
 saved_live room n r e =
     let w = saved_as room (saved_of (axis_of r)) in
     ⊎_elim (λ h. inl h.0) (λ h. inr h.0)
-    (live Unwritten w w (Bytes n) (λ f h. let z : ◌≡◌ {A = ℕ} 0 1 = cc in omega arith) (status_of r) e)
+    (live Err w w (Ok n) (λ f h. let z : ◌≡◌ {A = ℕ} 0 1 = cc in omega arith) (status_of r) e)
 
-saved_length : (room n : ℕ) (r : Row) (l : Live r) → save_row room r ≡ Bytes n → (length (bytes r) ≡ n) × (n ≤ room)
+saved_length : (room n : ℕ) (r : Row) (l : Live r) → save_row room r ≡ Ok n → (length (bytes r) ≡ n) × (n ≤ room)
 saved_length room n r l e = go (test (leb (length (bytes r)) room)) (sym (save_answers r l room) ∙ e)
   where
-    go : Decided (leb (length (bytes r)) room) → cond (leb (length (bytes r)) room) (Bytes (length (bytes r))) (Unwritten ROOM) ≡ Bytes n →
+    go : Decided (leb (length (bytes r)) room) → cond (leb (length (bytes r)) room) (Ok (length (bytes r))) (Err ROOM) ≡ Ok n →
         (length (bytes r) ≡ n) × (n ≤ room)
     go (yes h) k =
-        let m : Bytes (length (bytes r)) ≡ Bytes n = rw h at k in
+        let m : Ok (length (bytes r)) ≡ Ok n = rw h at k in
         let d : length (bytes r) ≡ n = cc in
         (d, omega (arith, leb-true (length (bytes r)) room h))
-    go (no h) k = let m : Unwritten ROOM ≡ Bytes n = rw h at k in absurd (let z : ◌≡◌ {A = ℕ} 0 1 = cc in omega arith)
+    go (no h) k = let m : Err ROOM ≡ Ok n = rw h at k in absurd (let z : ◌≡◌ {A = ℕ} 0 1 = cc in omega arith)
 
 -- A restore of what a save wrote makes, of an empty row, the row with the saved configuration and position and all else 0.
-pub restored_save : (b : List ℕ) (n : ℕ) (r q : Row) → save_row (length b) r ≡ Bytes n → status_of q ≡ Empty →
-    restore_row (take n (saved_in b r)) q ≡ To (row_of (fresh_at (axis_of r).config (axis_of r).word))
+pub restored_save : (b : List ℕ) (n : ℕ) (r q : Row) → save_row (length b) r ≡ Ok n → status_of q ≡ Empty →
+    restore_row (take n (saved_in b r)) q ≡ Ok (row_of (fresh_at (axis_of r).config (axis_of r).word))
 restored_save b n r q e empty =
     let a = axis_of r in
     let l = saved_live (length b) n r e in
@@ -194,25 +191,25 @@ restored_save b n r q e empty =
     ∙ rw (word_position a.word (live_position r l))
 
 -- A counter that was saved is restored as it was, all four words.
-pub restored_counter : (b : List ℕ) (n : ℕ) (r q : Row) → Words r → status_of r ≡ Counter → save_row (length b) r ≡ Bytes n →
-    status_of q ≡ Empty → restore_row (take n (saved_in b r)) q ≡ To r
+pub restored_counter : (b : List ℕ) (n : ℕ) (r q : Row) → Words r → status_of r ≡ Counter → save_row (length b) r ≡ Ok n →
+    status_of q ≡ Empty → restore_row (take n (saved_in b r)) q ≡ Ok r
 restored_counter b n r q w c e empty =
     let k = counter_gives r c in
     restored_save b n r q e empty
-    ∙ ap (λ (x : Axis). To (row_of x)) (ap (λ (x : Axis). fresh_at x.config x.word) k.rest ∙ sym k.rest)
-    ∙ ap To (packed_again r w (λ h. not_broken (sym c ∙ h)))
+    ∙ ap (λ (x : Axis). Ok (row_of x)) (ap (λ (x : Axis). fresh_at x.config x.word) k.rest ∙ sym k.rest)
+    ∙ ap Ok (packed_again r w (λ h. not_broken (sym c ∙ h)))
   where
     not_broken : Counter ≡ Broken → ⊥
     not_broken h = let z : ◌≡◌ {A = ℕ} 0 1 = cc in omega arith
 
 -- A save after a restore that was accepted writes the same bytes, into any buffer that has room for them.
-pub saved_restore : (s b : List ℕ) (r q : Row) → AllBytes s → restore_row s r ≡ To q → length s ≤ length b →
-    (save_row (length b) q ≡ Bytes (length s)) × (saved_in b q ≡ s ++ drop (length s) b)
+pub saved_restore : (s b : List ℕ) (r q : Row) → AllBytes s → restore_row s r ≡ Ok q → length s ≤ length b →
+    (save_row (length b) q ≡ Ok (length s)) × (saved_in b q ≡ s ++ drop (length s) b)
 saved_restore s b r q all e room = go (read_as s) refl
   where
-    go : (n : Read) → read_as s ≡ n → (save_row (length b) q ≡ Bytes (length s)) × (saved_in b q ≡ s ++ drop (length s) b)
-    go (Unread f) h = absurd (kept_not q f (sym (restore_refused s f r h) ∙ e))
-    go (Accepted said) h =
+    go : (n : Result Saved Refusal) → read_as s ≡ n → (save_row (length b) q ≡ Ok (length s)) × (saved_in b q ≡ s ++ drop (length s) b)
+    go (Err f) h = absurd (kept_not q f (sym (restore_refused s f r h) ∙ e))
+    go (Ok said) h =
         let m = restore_makes s said r h q e in
         let l = made_live q (sampled_kind said.config.kind) m.status in
         let p = (within_parts said (accepted_within s said h)).1 in
@@ -224,10 +221,10 @@ saved_restore s b r q all e room = go (read_as s) refl
 
 -- What a record is refused for is LAYOUT, RECORD or VALUE, and what holds of these numbers holds of its reason's.
 pub unread_number : (P : ℕ → Type 0) → P (number_of VALUE) → P (number_of (Layout 0)) → P (number_of Record) → (s : List ℕ) (e : Refusal) →
-    read_as s ≡ Unread e → P (number_of e)
+    read_as s ≡ Err e → P (number_of e)
 unread_number P value layout shape s e h = go ((exactly s (read_as s)).0 refl)
   where
-    said : (d : Refusal) → read_as s ≡ Unread d → P (number_of d) → P (number_of e)
+    said : (d : Refusal) → read_as s ≡ Err d → P (number_of d) → P (number_of e)
     said d q p = let same : d ≡ e = cc in subst (λ (f : Refusal). P (number_of f)) same p
 
     go : Judged s (read_as s) → P (number_of e)
@@ -243,13 +240,13 @@ pub restore_occupied : (s : List ℕ) (r : Row) →
     (changed_number (restore_row s r) ≡ number_of OCCUPIED) ↔ ((is_read (read_as s) ≡ true) × (status_of r ≡ Empty → ⊥))
 restore_occupied s r = go (read_as s) refl
   where
-    go : (n : Read) → read_as s ≡ n →
+    go : (n : Result Saved Refusal) → read_as s ≡ n →
         (changed_number (restore_row s r) ≡ number_of OCCUPIED) ↔ ((is_read n ≡ true) × (status_of r ≡ Empty → ⊥))
-    go (Unread e) h =
+    go (Err e) h =
         let never = unread_number (λ n. n ≡ number_of OCCUPIED → ⊥) (λ z. omega arith) (λ z. omega arith) (λ z. omega arith) s e h in
         (λ z. absurd (never (sym (ap changed_number (restore_refused s e r h)) ∙ z)), λ w. absurd (true≢false (sym w.0)))
-    go (Accepted said) h =
-        let exact = occupied_exactly (To (said_row said)) r (λ z. omega arith) in
+    go (Ok said) h =
+        let exact = occupied_exactly (Ok (said_row said)) r (λ z. omega arith) in
         let same = ap changed_number (accepted_is s said r h) in
         (λ z. (refl, exact.0 (sym same ∙ z)), λ w. same ∙ exact.1 w.1)
 
@@ -257,7 +254,7 @@ pub save_past : (room : ℕ) (s : Saved) → Past (written_number (saved_as room
 unfolding Past saved_as
 save_past room s =
     let size = length (record_of s) in
-    let fitted = after_either checked written_number OCCUPIED (leb size room) (Bytes size) (Unwritten ROOM) (inl refl) (inr (lit< tt)) in
+    let fitted = after_either checked written_number OCCUPIED (leb size room) (Ok size) (Err ROOM) (inl refl) (inr (lit< tt)) in
     after_either checked written_number OCCUPIED (within_limits s) _ _ fitted (inr (lit< tt))
 
 -- Save takes both kinds.
@@ -265,4 +262,4 @@ pub save_reasons : (room : ℕ) (r : Row) → StatusReasons (written_number (sav
 unfolding save_row
 save_reasons room r =
     let s = saved_of (axis_of r) in
-    both_kinds written_number Unwritten (λ e. refl) (saved_as room s) (saved_as room s) (save_past room s) (save_past room s) (status_of r)
+    both_kinds written_number Err (λ e. refl) (saved_as room s) (saved_as room s) (save_past room s) (save_past room s) (status_of r)

@@ -1,4 +1,5 @@
 -- What docs/RULES.md states of save and restore, computed to its end in words and bytes: "The saved record", "Readings to hold it against".
+use Rattle.std.specs.Prelude.{Ok, Err}
 use Prim.Native.Nat.{ℕ, ◌+◌, ◌-◌, ◌*◌, ◌^◌}
 use mathlib.Core.Path.{refl}
 use mathlib.Core.List.{List, [], ◌∷◌, ◌++◌}
@@ -13,8 +14,6 @@ use Rattle.tagged.specs.Field.{field_bytes, field_at}
 use Rattle.record_axis.specs.AxisFields.{counter_at, sampled_at, axis_at, front_bytes, setting_bytes, axis_bytes}
 use Rattle.record_axis.specs.Limits.{within_limits}
 use Rattle.record.specs.Record.{layout_refusal, ended_at, read_as, record_of, saved_as, written}
-use Rattle.record.specs.declared.answer.Written.TheVariants.{Bytes, Refused}
-use Rattle.row_calls.specs.declared.answer.Changed.TheVariants.{To, Kept}
 use Rattle.row_calls.proofs.StatedLaws.{◌is◌, AsStated, words, PRIMED, HOMED, RANGE, INDEX, counter, empty, broken}
 use Rattle.row_saving.specs.Saving.{save_row, saved_in, restored_by, restore_row}
 
@@ -37,12 +36,12 @@ axle =
 
 -- A save answers 34 bytes, or 27 for a counter, ROOM where the buffer is smaller, EMPTY and BROKEN.
 pub save_stated : AsStated (
-    (save_row 34 axle is Bytes 34)
-    ∷ (save_row 33 axle is Refused Room)
-    ∷ (save_row 40 (counter (2 ^ 62 + 250)) is Bytes 27)
-    ∷ (save_row 26 (counter (2 ^ 62 + 250)) is Refused Room)
-    ∷ (save_row 0 empty is Refused Empty)
-    ∷ (save_row 0 broken is Refused Broken)
+    (save_row 34 axle is Ok 34)
+    ∷ (save_row 33 axle is Err Room)
+    ∷ (save_row 40 (counter (2 ^ 62 + 250)) is Ok 27)
+    ∷ (save_row 26 (counter (2 ^ 62 + 250)) is Err Room)
+    ∷ (save_row 0 empty is Err Empty)
+    ∷ (save_row 0 broken is Err Broken)
     ∷ [])
 unfolding position_of in_range good_config status_of bytes_of field_bytes front_bytes setting_bytes axis_bytes within_limits record_of saved_as save_row
 save_stated = refl
@@ -61,17 +60,17 @@ bytes_stated = refl
 -- A restore makes of an empty row the record's configuration at its position and zeros besides; a record that is refused is so on every
 -- row, for its own reason; and one that is accepted is OCCUPIED where one bit of one word is set, or more.
 pub restore_stated : (r : Row) → AsStated (
-    (restore_row sampled empty is To (words (2 ^ 62 - 2) 52 0 4096))
-    ∷ (restore_row narrow empty is To (counter (2 ^ 62 + 250)))
-    ∷ (restore_row (1 ∷ 0 ∷ 2 ∷ 0 ∷ 7 ∷ []) r is Kept (Layout 7))
-    ∷ (restore_row (1 ∷ 0 ∷ 2 ∷ 0 ∷ 1 ∷ 2 ∷ 0 ∷ 1 ∷ 3 ∷ []) r is Kept Value)
-    ∷ (restore_row (1 ∷ 0 ∷ 2 ∷ 0 ∷ 1 ∷ 2 ∷ 0 ∷ 1 ∷ 4 ∷ []) r is Kept Record)
-    ∷ (restore_row sampled axle is Kept Occupied)
-    ∷ (restore_row narrow (counter (2 ^ 62 + 250)) is Kept Occupied)
-    ∷ (restore_row narrow (words 1 0 0 0) is Kept Occupied)
-    ∷ (restore_row narrow (words 0 1 0 0) is Kept Occupied)
-    ∷ (restore_row narrow (words 0 0 1 0) is Kept Occupied)
-    ∷ (restore_row narrow broken is Kept Occupied)
+    (restore_row sampled empty is Ok (words (2 ^ 62 - 2) 52 0 4096))
+    ∷ (restore_row narrow empty is Ok (counter (2 ^ 62 + 250)))
+    ∷ (restore_row (1 ∷ 0 ∷ 2 ∷ 0 ∷ 7 ∷ []) r is Err (Layout 7))
+    ∷ (restore_row (1 ∷ 0 ∷ 2 ∷ 0 ∷ 1 ∷ 2 ∷ 0 ∷ 1 ∷ 3 ∷ []) r is Err Value)
+    ∷ (restore_row (1 ∷ 0 ∷ 2 ∷ 0 ∷ 1 ∷ 2 ∷ 0 ∷ 1 ∷ 4 ∷ []) r is Err Record)
+    ∷ (restore_row sampled axle is Err Occupied)
+    ∷ (restore_row narrow (counter (2 ^ 62 + 250)) is Err Occupied)
+    ∷ (restore_row narrow (words 1 0 0 0) is Err Occupied)
+    ∷ (restore_row narrow (words 0 1 0 0) is Err Occupied)
+    ∷ (restore_row narrow (words 0 0 1 0) is Err Occupied)
+    ∷ (restore_row narrow broken is Err Occupied)
     ∷ [])
 unfolding in_range word_of good_config number_from starts field_at counter_at sampled_at axis_at within_limits layout_refusal ended_at read_as
     restored_by restore_row

@@ -8,39 +8,29 @@ ghost use Rattle.row_calls.specs.Calls.{on_empty};
 ghost use Rattle.row_saving.specs.Saving.{saved_of, save_row, saved_in, said_row, restore_row};
 
 use axis::row::{Axis, Row};
-use axis_open::open;
 use axis_packing::pack::pack;
-use axis_sound::{Status, is_empty};
-use record::answer::{Read, Written};
+use axis_sound::is_empty;
 use record_axis::saved::Saved;
 use refusal::Refusal;
-use row_calls::answer::Changed;
+use row_calls::in_use::in_use;
 
 // What is saved of an axis.
 pub fn kept(a: Axis) -> Saved
     requires { Word a.word }
     ensures { result ≡ saved_of a }
 {
-    let config = a.config;
     Saved {
-        config,
+        config: a.config,
         position: position::at_word(a.word),
     }
 }
 
 // Save: the axis's record at the front of a buffer.
-pub fn save(r: Row, buf: &mut [u8]) -> Written
+pub fn save(r: Row, buf: &mut [u8]) -> Result<usize, Refusal>
     ensures { (result ≡ save_row (length buf.old) r) × (buf.new ≡ saved_in buf.old r) }
 {
-    let opened = open(r);
-    let status = opened.status;
-    let axis = opened.axis;
-    match status {
-        Status::Broken => Written::Refused(Refusal::Broken),
-        Status::Empty => Written::Refused(Refusal::Empty),
-        Status::Sampled => record_writer::save(buf, kept(axis)),
-        Status::Counter => record_writer::save(buf, kept(axis)),
-    }
+    let x = in_use(r)?;
+    record_writer::save(buf, kept(x.axis))
 }
 
 // The row that a record says, as setup and then preset would leave it.
@@ -54,22 +44,20 @@ pub fn said_row(saved: Saved) -> Row
 }
 
 // The axis that a record says, in an empty row.
-fn put_in(r: Row, saved: Saved) -> Changed
+fn put_in(r: Row, saved: Saved) -> Result<Row, Refusal>
     requires { within_limits saved ≡ true }
-    ensures { result ≡ on_empty (Changed.To (said_row saved)) r }
+    ensures { result ≡ on_empty (Ok (said_row saved)) r }
 {
     if !is_empty(r) {
-        return Changed::Kept(Refusal::Occupied);
+        return Err(Refusal::Occupied);
     }
-    Changed::To(said_row(saved))
+    Ok(said_row(saved))
 }
 
 // Restore: the record is read to its end before the row is looked at.
-pub fn restore(r: Row, slice: &[u8]) -> Changed
+pub fn restore(r: Row, slice: &[u8]) -> Result<Row, Refusal>
     ensures { result ≡ restore_row slice.now r }
 {
-    match record::reader::read(slice) {
-        Read::Refused(e) => Changed::Kept(e),
-        Read::Accepted(saved) => put_in(r, saved),
-    }
+    let saved = record::reader::read(slice)?;
+    put_in(r, saved)
 }

@@ -1,4 +1,5 @@
 -- The laws of speed by period: each answer exactly where it is due, what it divides and what it leaves.
+use Rattle.std.specs.Prelude.{Ok, Err}
 use Prim.Native.Nat.{ℕ, zero, suc, ◌-◌, ◌*◌, ◌^◌, ◌<◌, ◌≤◌}
 use native.Mathlib.Omega.{arith}
 use mathlib.Core.Path.{◌≡◌, refl}
@@ -12,7 +13,6 @@ use Rattle.refusal.specs.declared.Refusal.TheVariants.{Kind as KIND, Value as VA
 use Rattle.speed.specs.Rounding.{divided, Divides}
 use Rattle.speed.specs.Speed.{speed_refusal, good_count, good_samples, good_rate, good_speed, speed_by_count}
 use Rattle.speed.specs.declared.Quotient.{Quotient}
-use Rattle.speed.specs.declared.Speed.TheVariants.{Of, Refused}
 use Rattle.speed.proofs.RoundingLaws.{near}
 use Rattle.speed.proofs.SpeedLaws.{unsped_not, speed_divides as count-divides, speed_divisor as count-divisor}
 use Rattle.axis.specs.Row.{axis_of}
@@ -54,18 +54,18 @@ module _ (rate : ℕ) (r : Row) (sampled : status_of r ≡ Sampled) where
   pace = (axis_of r).pace
 
   -- On a sampled row a rate outside its limits is VALUE, whatever the period.
-  pub speed_value : good_rate rate ≡ false → speed_row rate r ≡ Refused VALUE
+  pub speed_value : good_rate rate ≡ false → speed_row rate r ≡ Err VALUE
   unfolding speed_row speed_of
   speed_value h = rw (sampled, h)
 
   -- Within them a period of 0 is NO PERIOD.
-  pub speed_still : good_rate rate ≡ true → pace.period ≡ 0 → speed_row rate r ≡ Refused NO-PERIOD
+  pub speed_still : good_rate rate ≡ true → pace.period ≡ 0 → speed_row rate r ≡ Err NO-PERIOD
   unfolding speed_row speed_of
   speed_still h z = rw (sampled, h, eq-eqb pace.period 0 z)
 
   -- Any other period gives a speed: the direction's sign times 1000 F over the larger of period and age.
   pub speed_moving : good_rate rate ≡ true → 0 < pace.period →
-      speed_row rate r ≡ Of (divided (sign_of pace.direction *ℤ pos (1000 * rate)) (span_of pace))
+      speed_row rate r ≡ Ok (divided (sign_of pace.direction *ℤ pos (1000 * rate)) (span_of pace))
   unfolding speed_row speed_of speed_by_count good_speed
   speed_moving h p =
       let some = ne_eqb pace.period 0 (λ z. let idle : ⊥ = omega arith in idle) in
@@ -101,27 +101,27 @@ pub speed_reasons : (rate : ℕ) (r : Row) → StatusReasons (speed_refusal (spe
 unfolding speed_row
 speed_reasons rate r =
     let pace = (axis_of r).pace in
-    sampled_only speed_refusal Refused (λ e. refl) (speed_of rate pace) (speed_past rate pace) (status_of r)
+    sampled_only speed_refusal Err (λ e. refl) (speed_of rate pace) (speed_past rate pace) (status_of r)
 
 -- ---- what it was reckoned from
 
 -- A speed is one by count, of one count over the larger of period and age.
-speed_from : (rate : ℕ) (r : Row) (q : Quotient) → speed_row rate r ≡ Of q →
-    speed_by_count (sign_of (axis_of r).pace.direction) (span_of (axis_of r).pace) rate ≡ Of q
+speed_from : (rate : ℕ) (r : Row) (q : Quotient) → speed_row rate r ≡ Ok q →
+    speed_by_count (sign_of (axis_of r).pace.direction) (span_of (axis_of r).pace) rate ≡ Ok q
 unfolding speed_row speed_of
 speed_from rate r q e =
     ⊎_elim
     (λ h. go (test (good_rate rate)) (test (eqb (axis_of r).pace.period 0)) h.1)
     (λ h. absurd (unsped_not q KIND h.1))
-    (live Refused (speed_of rate (axis_of r).pace) (Refused KIND) (Of q) (unsped_not q) (status_of r) e)
+    (live Err (speed_of rate (axis_of r).pace) (Err KIND) (Ok q) (unsped_not q) (status_of r) e)
   where
-    go : Decided (good_rate rate) → Decided (eqb (axis_of r).pace.period 0) → speed_of rate (axis_of r).pace ≡ Of q →
-        speed_by_count (sign_of (axis_of r).pace.direction) (span_of (axis_of r).pace) rate ≡ Of q
+    go : Decided (good_rate rate) → Decided (eqb (axis_of r).pace.period 0) → speed_of rate (axis_of r).pace ≡ Ok q →
+        speed_by_count (sign_of (axis_of r).pace.direction) (span_of (axis_of r).pace) rate ≡ Ok q
     go (no g) t h = absurd (unsped_not q VALUE (rw g at h))
     go (yes g) (yes z) h = absurd (unsped_not q NO-PERIOD (rw (g, z) at h))
     go (yes g) (no z) h = rw (g, z) at h
 
-module _ (rate : ℕ) (r : Row) (q : Quotient) (e : speed_row rate r ≡ Of q) where
+module _ (rate : ℕ) (r : Row) (q : Quotient) (e : speed_row rate r ≡ Ok q) where
   -- The divisor T is the larger of period and age, and number times T plus remainder is exactly 1000 F, F with the direction's sign.
   pub speed_divides : Divides (sign_of (axis_of r).pace.direction *ℤ pos (1000 * rate)) (span_of (axis_of r).pace) q
   speed_divides = count-divides (sign_of (axis_of r).pace.direction) (span_of (axis_of r).pace) rate q (speed_from rate r q e)

@@ -5,10 +5,9 @@ ghost use Rattle.std.specs.Prelude.{◌≡◌, max};
 ghost use Rattle.row_speed.specs.Speed.{sign_of, speed_of, speed_row};
 
 use axis::row::{Pace, Row};
-use axis_open::open;
-use axis_sound::Status;
 use refusal::Refusal;
-use speed::Speed;
+use row_calls::in_use::sampled;
+use speed::Quotient;
 
 // One count, with the sign of a direction.
 fn sign(direction: u8) -> i64
@@ -21,36 +20,25 @@ fn sign(direction: u8) -> i64
 fn larger(period: u32, age: u32) -> u64
     ensures { result ≡ max period age }
 {
-    if period < age {
-        return age as u64;
-    }
-    period as u64
+    u64::from(period.max(age))
 }
 
 // The speed of a pace: VALUE, then NO PERIOD.
-fn by_period(p: Pace, rate: u64) -> Speed
+fn by_period(p: Pace, rate: u64) -> Result<Quotient, Refusal>
     ensures { result ≡ speed_of rate p }
 {
     if !speed::is_rate(rate) {
-        return Speed::Refused(Refusal::Value);
+        return Err(Refusal::Value);
     }
     if p.period == 0 {
-        return Speed::Refused(Refusal::NoPeriod);
+        return Err(Refusal::NoPeriod);
     }
     speed::by_count(sign(p.direction), larger(p.period, p.age), rate)
 }
 
 // Speed by period, at a rate in samples a second.
-pub fn speed(r: Row, rate: u64) -> Speed
+pub fn speed(r: Row, rate: u64) -> Result<Quotient, Refusal>
     ensures { result ≡ speed_row rate r }
 {
-    let opened = open(r);
-    let status = opened.status;
-    let axis = opened.axis;
-    match status {
-        Status::Broken => Speed::Refused(Refusal::Broken),
-        Status::Empty => Speed::Refused(Refusal::Empty),
-        Status::Counter => Speed::Refused(Refusal::Kind),
-        Status::Sampled => by_period(axis.pace, rate),
-    }
+    by_period(sampled(r)?.axis.pace, rate)
 }

@@ -1,5 +1,4 @@
-// The answers of view: what it shows, or a refusal.
-use refusal::Refusal;
+// The answer of view.
 
 // What a view shows of an axis.
 #[derive(Clone, Copy)]
@@ -12,11 +11,4 @@ pub struct View {
     pub range: bool,
     pub index: bool,
     pub doubles: u16,
-}
-
-// What a view answers.
-#[derive(Clone, Copy)]
-pub enum Viewed {
-    Shows(View),
-    Refused(Refusal),
 }

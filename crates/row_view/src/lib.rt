@@ -2,46 +2,36 @@
 #![tactic(auto)]
 
 ghost use Rattle.std.specs.Prelude.{◌≡◌};
-ghost use Rattle.position.specs.Position.{Word};
 ghost use Rattle.row_view.specs.View.{view_of, view_row};
 
-use crate::answer::{View, Viewed};
-use axis::row::{Axis, Row};
-use axis_open::open;
-use axis_sound::Status;
+use crate::answer::View;
+use axis::row::Row;
 use refusal::Refusal;
+use row_calls::in_use::{InUse, in_use};
 
 pub mod answer; // answer.rt: what a view answers
 
 // What an axis shows.
-fn view_of(a: Axis) -> View
-    requires { Word a.word }
-    ensures { result ≡ view_of a }
+fn view_of(x: InUse) -> View
+    ensures { result ≡ view_of x }
 {
-    let flags = a.flags;
+    let axis = x.axis;
+    let flags = axis.flags;
     View {
-        kind: a.config.kind,
-        position: position::at_word(a.word),
+        kind: axis.config.kind,
+        position: x.position(),
         primed: flags.primed,
         armed: flags.armed,
         homed: flags.homed,
         range: flags.range,
         index: flags.index,
-        doubles: a.doubles,
+        doubles: axis.doubles,
     }
 }
 
 // View.
-pub fn view(r: Row) -> Viewed
+pub fn view(r: Row) -> Result<View, Refusal>
     ensures { result ≡ view_row r }
 {
-    let opened = open(r);
-    let status = opened.status;
-    let axis = opened.axis;
-    match status {
-        Status::Broken => Viewed::Refused(Refusal::Broken),
-        Status::Empty => Viewed::Refused(Refusal::Empty),
-        Status::Sampled => Viewed::Shows(view_of(axis)),
-        Status::Counter => Viewed::Shows(view_of(axis)),
-    }
+    Ok(view_of(in_use(r)?))
 }

@@ -1,4 +1,5 @@
 -- What a call answers on a row that it takes, for all calls at once.
+use Rattle.std.specs.Prelude.{Result, Ok, Err}
 use Prim.Native.Nat.{ℕ, zero, suc, ◌<◌}
 use native.Mathlib.Omega.{arith}
 use mathlib.Core.Path.{◌≡◌, refl, ap}
@@ -21,14 +22,11 @@ use Rattle.axis_sound.specs.Sound.{status_of}
 use Rattle.axis_sound.specs.declared.Status.{Status}
 use Rattle.axis_sound.specs.declared.Status.TheVariants.{Empty, Sampled, Counter}
 use Rattle.record.specs.Record.{read_as, record_of}
-use Rattle.record.specs.declared.answer.Read.{Read}
-use Rattle.record.specs.declared.answer.Read.TheVariants.{Accepted, Refused as Unread}
 use Rattle.record.proofs.OrderLaws.{exactly}
 use Rattle.record.proofs.RecordLaws.{written_shape}
 use Rattle.row_calls.specs.Answer.{done_of}
 use Rattle.row_calls.specs.Calls.{setup_row, erase_row}
-use Rattle.row_calls.specs.declared.apply.Change.TheVariants.{Setup, Erase, Preset, Arm, Acknowledge}
-use Rattle.row_calls.specs.declared.answer.Changed.{Changed}
+use Rattle.row_calls.specs.Calls.{Setup, Erase, Preset, Arm, Acknowledge}
 use Rattle.row_calls.proofs.StatusLaws.{Live}
 use Rattle.row_calls.proofs.SetupLaws.{on_empty_lem}
 use Rattle.row_calls.proofs.ReasonLaws.{preset_is, arm_is, acknowledge_is}
@@ -43,6 +41,8 @@ use Rattle.runs.specs.Answering.{told_read, record_size, Answers}
 use Rattle.runs.specs.Answering.{set_up, no_configuration, erased, placed, no_position, armed, acknowledged, restored, widened}
 use Rattle.runs.specs.Answering.{viewed, no_rate, no_period, sped, no_room, saved}
 use Rattle.runs.specs.Refusing.{needs_axis, wants_empty, WrongKind, Takes}
+use Rattle.refusal.specs.declared.Refusal.{Refusal}
+use Rattle.record_axis.specs.declared.saved.Saved.{Saved}
 
 -- ---- the rows that a call takes
 
@@ -61,10 +61,10 @@ above zero h = absurd (h refl)
 above (suc n) h = omega arith
 
 -- A restore tells what the record's reader says, where the row is empty or the record refused.
-read_told : (a : Read) (r : Row) → (is_read a ≡ true → status_of r ≡ Empty) → told_done (done_of (restored_by a r)) ≡ told_read a
+read_told : (a : Result Saved Refusal) (r : Row) → (is_read a ≡ true → status_of r ≡ Empty) → told_done (done_of (restored_by a r)) ≡ told_read a
 unfolding restored_by told_read
-read_told (Accepted s) r empty = ap (λ (c : Changed). told_done (done_of c)) (on_empty_lem _ r (empty refl))
-read_told (Unread e) r empty = refl
+read_told (Ok s) r empty = ap (λ (c : Result Row Refusal). told_done (done_of c)) (on_empty_lem _ r (empty refl))
+read_told (Err e) r empty = refl
 
 module _ (r : Row) where
   speed_answered : (rate : ℕ) → status_of r ≡ Sampled → Answers r (looks (speed rate)) (answer_of (looks (speed rate)) r)

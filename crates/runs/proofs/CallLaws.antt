@@ -1,4 +1,5 @@
 -- One call of a run, for all calls at once: which table it leaves, and what it makes of the named row and tells.
+use Rattle.std.specs.Prelude.{Result, Ok, Err, ℤ}
 use Prim.Native.Nat.{ℕ, ◌*◌, ◌<◌}
 use native.Mathlib.Omega.{arith}
 use mathlib.Core.Path.{◌≡◌, refl, sym, ap, ◌∙◌}
@@ -14,14 +15,8 @@ use Rattle.row_calls.specs.Answer.{done_of}
 use Rattle.row_calls.specs.Calls.{left_by, change_row}
 use Rattle.row_saving.specs.Saving.{restore_row}
 use Rattle.row_counter.specs.Reading.{reading_row, stored_row, read_row}
-use Rattle.reckon.specs.declared.Reckoned.{Reckoned}
-use Rattle.reckon.specs.declared.Reckoned.TheVariants.{Number, Refused as Unreckoned}
-use Rattle.row_calls.specs.declared.answer.Changed.{Changed}
-use Rattle.row_calls.specs.declared.answer.Changed.TheVariants.{To, Kept}
 use Rattle.table_rows.specs.Table.{axes_in, row_at, set_row}
 use Rattle.table_rows.specs.Located.{located, on_found}
-use Rattle.table_rows.specs.declared.Located.{Located}
-use Rattle.table_rows.specs.declared.Located.TheVariants.{At, Refused}
 use Rattle.table_rows.proofs.RowsLaws.{axes_fit, axes_only, length_set_row, row_same, row_other, table_ext}
 use Rattle.table_rows.proofs.LocatedLaws.{found_at, found}
 use Rattle.table_port.proofs.PortLaws.{sample_length}
@@ -34,14 +29,14 @@ use Rattle.runs.specs.Run.{Call, port, names, table_by, table_next, table_run, a
 -- ---- the row
 
 -- What refuses leaves the row.
-undone_stays : (r : Row) (c : Changed) (e : Refusal) → told_done (done_of c) ≡ refused e → left_by r c ≡ r
-undone_stays r (Kept x) e q = refl
-undone_stays r (To s) e q = absurd (let z : ◌≡◌ {A = ℕ} 0 1 = cc in omega arith)
+undone_stays : (r : Row) (c : Result Row Refusal) (e : Refusal) → told_done (done_of c) ≡ refused e → left_by r c ≡ r
+undone_stays r (Err x) e q = refl
+undone_stays r (Ok s) e q = absurd (let z : ◌≡◌ {A = ℕ} 0 1 = cc in omega arith)
 
-unread_stays : (r : Row) (a : Reckoned) (e : Refusal) → told_number a ≡ refused e → left_by r (stored_row r a) ≡ r
+unread_stays : (r : Row) (a : Result ℤ Refusal) (e : Refusal) → told_number a ≡ refused e → left_by r (stored_row r a) ≡ r
 unfolding stored_row
-unread_stays r (Unreckoned x) e q = refl
-unread_stays r (Number z) e q = absurd (let z : ◌≡◌ {A = ℕ} 0 1 = cc in omega arith)
+unread_stays r (Err x) e q = refl
+unread_stays r (Ok z) e q = absurd (let z : ◌≡◌ {A = ℕ} 0 1 = cc in omega arith)
 
 -- A call that is refused changes nothing.
 pub refused_after : (r : Row) (o : Op) (e : Refusal) → RefusedFor r o e → row_after r o ≡ r
@@ -72,16 +67,16 @@ other_row t j k o h = (makes_spares (rule_of o) {t = t} {k = j} (record { answer
 
 module _ (t : List ℕ) (k : ℕ) (h : k < axes_in (length t)) where
   -- the rule of a call is asked of the named row
-  pub ruled_is : (rule : Row → Changed) → ruled rule t k ≡ rule (row_at t k)
+  pub ruled_is : (rule : Row → Result Row Refusal) → ruled rule t k ≡ rule (row_at t k)
   ruled_is rule = rw (← (found_at t k h))
 
-  pub by_rule : (rule : Row → Changed) → row_at (table_after t k (ruled rule t k)) k ≡ left_by (row_at t k) (rule (row_at t k))
+  pub by_rule : (rule : Row → Result Row Refusal) → row_at (table_after t k (ruled rule t k)) k ≡ left_by (row_at t k) (rule (row_at t k))
   unfolding table_after
   by_rule rule = rw (ruled_is rule) (go (rule (row_at t k)))
     where
-      go : (c : Changed) → row_at (table_after t k c) k ≡ left_by (row_at t k) c
-      go (Kept e) = refl
-      go (To s) = row_same t k s (omega (arith, axes_fit (length t)))
+      go : (c : Result Row Refusal) → row_at (table_after t k c) k ≡ left_by (row_at t k) c
+      go (Err e) = refl
+      go (Ok s) = row_same t k s (omega (arith, axes_fit (length t)))
 
   -- The named row after a call.
   pub named_row : (o : Op) → row_at (table_by t k o) k ≡ row_after (row_at t k) o
@@ -113,6 +108,6 @@ pub look_keeps : (t : List ℕ) (k : ℕ) (l : Look) → table_by t k (looks l) 
 unfolding table_by table_after rule_of
 look_keeps t k l = go (located t k) refl
   where
-    go : (p : Located) → located t k ≡ p → table_after t k (on_found Kept (rule_of (looks l)) p) ≡ t
-    go (Refused e) q = refl
-    go (At r) q = let f = found t k r q in ap (set_row t k) (sym f.1) ∙ put_back t k f.0
+    go : (p : Result Row Refusal) → located t k ≡ p → table_after t k (on_found Err (rule_of (looks l)) p) ≡ t
+    go (Err e) q = refl
+    go (Ok r) q = let f = found t k r q in ap (set_row t k) (sym f.1) ∙ put_back t k f.0

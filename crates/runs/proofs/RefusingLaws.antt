@@ -1,5 +1,6 @@
 -- When a call that names one axis is refused, for all calls at once, and that a refusal changes nothing: docs/RULES.md, "Reasons for saying
 -- no".
+use Rattle.std.specs.Prelude.{Result, Ok, Err, ℤ, ⊤}
 use Prim.Native.Nat.{ℕ, ◌≤◌, ◌<◌}
 use native.Mathlib.Omega.{arith}
 use mathlib.Core.Path.{◌≡◌, refl, sym, ap, ◌∙◌}
@@ -16,43 +17,29 @@ use Rattle.refusal.specs.declared.Refusal.{Refusal}
 use Rattle.refusal.specs.declared.Refusal.TheVariants.{Axis, Empty as EMPTY, Kind as KIND, Broken as BROKEN, Occupied as OCCUPIED}
 use Rattle.refusal.proofs.RefusalLaws.{after_not, after_sooner}
 use Rattle.reckon.specs.Reckoned.{refusal_in}
-use Rattle.reckon.specs.declared.Reckoned.{Reckoned}
-use Rattle.reckon.specs.declared.Reckoned.TheVariants.{Number, Refused as Unreckoned}
 use Rattle.axis.specs.declared.row.Row.{Row}
 use Rattle.axis_sound.specs.Sound.{is_empty, status_of, passes}
 use Rattle.axis_sound.proofs.SoundLaws.{status_exactly}
 use Rattle.axis_sound.specs.declared.Status.{Status}
 use Rattle.axis_sound.specs.declared.Status.TheVariants.{Empty, Sampled, Counter, Broken}
 use Rattle.record.specs.Answer.{written_number}
-use Rattle.record.specs.declared.answer.Written.{Written}
-use Rattle.record.specs.declared.answer.Written.TheVariants.{Bytes, Refused as Unwritten}
 use Rattle.row_calls.specs.Answer.{done_of, done_number}
 use Rattle.row_calls.specs.Calls.{change_row, setup_row, erase_row}
 use Rattle.row_calls.specs.Reasons.{StatusReasons}
-use Rattle.row_calls.specs.declared.apply.Change.TheVariants.{Setup, Erase, Preset, Arm, Acknowledge}
-use Rattle.row_calls.specs.declared.answer.Changed.{Changed}
-use Rattle.row_calls.specs.declared.answer.Changed.TheVariants.{To, Kept}
-use Rattle.row_calls.specs.declared.answer.Done.{Done}
-use Rattle.row_calls.specs.declared.answer.Done.TheVariants.{Yes, Refused as Undone}
+use Rattle.row_calls.specs.Calls.{Setup, Erase, Preset, Arm, Acknowledge}
 use Rattle.row_calls.proofs.ReasonLaws.{preset_reasons, arm_reasons, acknowledge_reasons}
 use Rattle.row_calls.proofs.SetupLaws.{setup_occupied}
 use Rattle.row_view.specs.View.{view_number, view_row}
-use Rattle.row_view.specs.declared.answer.Viewed.{Viewed}
-use Rattle.row_view.specs.declared.answer.Viewed.TheVariants.{Shows, Refused as Unseen}
 use Rattle.row_view.proofs.ViewLaws.{view_reasons}
 use Rattle.row_counter.specs.Reading.{reading_row, stored_row, read_row}
 use Rattle.row_counter.proofs.ReadingLaws.{reading_reasons}
 use Rattle.row_speed.specs.Speed.{speed_row}
 use Rattle.row_speed.proofs.SpeedLaws.{speed_reasons}
 use Rattle.speed.specs.Speed.{speed_refusal}
-use Rattle.speed.specs.declared.Speed.{Speed}
-use Rattle.speed.specs.declared.Speed.TheVariants.{Of, Refused as Unsped}
 use Rattle.row_saving.specs.Saving.{save_row, saved_in, restore_row}
 use Rattle.row_saving.proofs.SaveLaws.{save_reasons, restore_occupied}
 use Rattle.table_rows.specs.Table.{axes_in, row_at}
 use Rattle.table_rows.specs.Located.{located, on_found}
-use Rattle.table_rows.specs.declared.Located.{Located}
-use Rattle.table_rows.specs.declared.Located.TheVariants.{At, Refused}
 use Rattle.table_change.specs.Making.{table_after}
 use Rattle.table_change.specs.Order.{Ordered}
 use Rattle.table_change.proofs.OrderLaws.{in_order, setup_late, erase_late, preset_late, arm_late, acknowledge_late}
@@ -63,33 +50,35 @@ use Rattle.runs.specs.Run.{table_by, answer_in}
 use Rattle.runs.specs.Refusing.{refusal_told, needs_axis, wants_empty, WrongKind, Takes, ByRow, RefusesExactly}
 use Rattle.runs.proofs.CallLaws.{look_keeps}
 use Rattle.runs.proofs.AnsweringLaws.{answers}
+use Rattle.speed.specs.declared.Quotient.{Quotient}
+use Rattle.row_view.specs.declared.answer.View.{View}
 
 -- ---- the number of what is told is that of the answer
 
-done_number_lem : (a : Done) → refusal_told (told_done a) ≡ done_number a
+done_number_lem : (a : Result ⊤ Refusal) → refusal_told (told_done a) ≡ done_number a
 unfolding refusal_told
-done_number_lem Yes = refl
-done_number_lem (Undone e) = refl
+done_number_lem (Ok _) = refl
+done_number_lem (Err e) = refl
 
-view_number_lem : (a : Viewed) → refusal_told (told_view a) ≡ view_number a
+view_number_lem : (a : Result View Refusal) → refusal_told (told_view a) ≡ view_number a
 unfolding refusal_told
-view_number_lem (Shows v) = refl
-view_number_lem (Unseen e) = refl
+view_number_lem (Ok v) = refl
+view_number_lem (Err e) = refl
 
-reckoned_number : (a : Reckoned) → refusal_told (told_number a) ≡ refusal_in a
+reckoned_number : (a : Result ℤ Refusal) → refusal_told (told_number a) ≡ refusal_in a
 unfolding refusal_told
-reckoned_number (Number z) = refl
-reckoned_number (Unreckoned e) = refl
+reckoned_number (Ok z) = refl
+reckoned_number (Err e) = refl
 
-speed_number : (a : Speed) → refusal_told (told_speed a) ≡ speed_refusal a
+speed_number : (a : Result Quotient Refusal) → refusal_told (told_speed a) ≡ speed_refusal a
 unfolding refusal_told
-speed_number (Of q) = refl
-speed_number (Unsped e) = refl
+speed_number (Ok q) = refl
+speed_number (Err e) = refl
 
-bytes_number : (a : Written) (b : List ℕ) → refusal_told (told_bytes a b) ≡ written_number a
+bytes_number : (a : Result ℕ Refusal) (b : List ℕ) → refusal_told (told_bytes a b) ≡ written_number a
 unfolding refusal_told
-bytes_number (Bytes n) b = refl
-bytes_number (Unwritten e) b = refl
+bytes_number (Ok n) b = refl
+bytes_number (Err e) b = refl
 
 -- ---- on a row
 
@@ -248,15 +237,15 @@ module _ (o : Op) (t : List ℕ) (k : ℕ) where
 
 -- ---- a refusal changes nothing
 
-kept_table : (t : List ℕ) (k : ℕ) (c : Changed) (e : Refusal) → told_done (done_of c) ≡ refused e → table_after t k c ≡ t
+kept_table : (t : List ℕ) (k : ℕ) (c : Result Row Refusal) (e : Refusal) → told_done (done_of c) ≡ refused e → table_after t k c ≡ t
 unfolding table_after
-kept_table t k (Kept x) e q = refl
-kept_table t k (To r) e q = absurd (let z : ◌≡◌ {A = ℕ} 0 1 = cc in omega arith)
+kept_table t k (Err x) e q = refl
+kept_table t k (Ok r) e q = absurd (let z : ◌≡◌ {A = ℕ} 0 1 = cc in omega arith)
 
-unread_table : (t : List ℕ) (k : ℕ) (r : Row) (a : Reckoned) (e : Refusal) → told_number a ≡ refused e → table_after t k (stored_row r a) ≡ t
+unread_table : (t : List ℕ) (k : ℕ) (r : Row) (a : Result ℤ Refusal) (e : Refusal) → told_number a ≡ refused e → table_after t k (stored_row r a) ≡ t
 unfolding table_after stored_row
-unread_table t k r (Unreckoned x) e q = refl
-unread_table t k r (Number z) e q = absurd (let z : ◌≡◌ {A = ℕ} 0 1 = cc in omega arith)
+unread_table t k r (Err x) e q = refl
+unread_table t k r (Ok z) e q = absurd (let z : ◌≡◌ {A = ℕ} 0 1 = cc in omega arith)
 
 -- What is refused on the row that was found, or for want of one, leaves the table.
 found_keeps : (t : List ℕ) (k : ℕ) (o : Op) (e : Refusal) → ((r : Row) → answer_of o r ≡ refused e → table_after t k (rule_of o r) ≡ t) →
@@ -264,9 +253,9 @@ found_keeps : (t : List ℕ) (k : ℕ) (o : Op) (e : Refusal) → ((r : Row) →
 unfolding table_by table_after answer_in
 found_keeps t k o e keeps = go (located t k)
   where
-    go : (l : Located) → on_found refused (answer_of o) l ≡ refused e → table_after t k (on_found Kept (rule_of o) l) ≡ t
-    go (Refused x) q = refl
-    go (At r) q = keeps r q
+    go : (l : Result Row Refusal) → on_found refused (answer_of o) l ≡ refused e → table_after t k (on_found Err (rule_of o) l) ≡ t
+    go (Err x) q = refl
+    go (Ok r) q = keeps r q
 
 -- A call that is refused leaves every word of the table.
 pub refused_table : (t : List ℕ) (k : ℕ) (o : Op) (e : Refusal) → answer_in t k o ≡ refused e → table_by t k o ≡ t

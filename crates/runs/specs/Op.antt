@@ -1,6 +1,6 @@
 -- The calls that name one axis, as data: docs/RULES.md, "Calls that name one axis" and "The saved record".
 -- What a call makes of the named row and what it answers is said here once, call by call.
-use Rattle.std.specs.Prelude.{ℕ, ◌≡◌, List, length}
+use Rattle.std.specs.Prelude.{ℕ, ◌≡◌, List, length, Result, Ok}
 use Rattle.refusal.specs.declared.Refusal.{Refusal}
 use Rattle.axis.specs.declared.row.Row.{Row}
 use Rattle.row_calls.specs.Answer.{done_of}
@@ -9,9 +9,7 @@ use Rattle.row_view.specs.View.{view_row}
 use Rattle.row_saving.specs.Saving.{save_row, saved_in, restore_row}
 use Rattle.row_speed.specs.Speed.{speed_row}
 use Rattle.row_counter.specs.Reading.{reading_row, read_row}
-use Rattle.row_calls.specs.declared.apply.Change.{Change}
-use Rattle.row_calls.specs.declared.answer.Changed.{Changed}
-use Rattle.row_calls.specs.declared.answer.Changed.TheVariants.{To}
+use Rattle.row_calls.specs.Calls.{Change}
 use Rattle.runs.specs.Told.{Told, refused, told_done, told_view, told_number, told_speed, told_bytes}
 
 -- A call that only looks: save by what the buffer holds.
@@ -35,11 +33,11 @@ look_row (speed rate) r = told_speed (speed_row rate r)
 look_row (save buffer) r = told_bytes (save_row (length buffer) r) (saved_in buffer r)
 
 -- What a call makes of a row: a look, the row itself.
-unfoldable pub rule_of : Op → Row → Changed
+unfoldable pub rule_of : Op → Row → Result Row Refusal
 rule_of (changes c) r = change_row c r
 rule_of (restore bytes) r = restore_row bytes r
 rule_of (reading x) r = read_row x r
-rule_of (looks l) r = To r
+rule_of (looks l) r = Ok r
 
 -- What a call answers on a row.
 unfoldable pub answer_of : Op → Row → Told

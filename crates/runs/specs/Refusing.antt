@@ -4,7 +4,7 @@ use Rattle.refusal.specs.Refusal.{number_of}
 use Rattle.axis_sound.specs.Sound.{status_of}
 use Rattle.axis_sound.specs.declared.Status.{Status}
 use Rattle.axis_sound.specs.declared.Status.TheVariants.{Empty, Sampled, Counter, Broken}
-use Rattle.row_calls.specs.declared.apply.Change.TheVariants.{Setup, Erase, Preset, Arm, Acknowledge}
+use Rattle.row_calls.specs.Calls.{Setup, Erase, Preset, Arm, Acknowledge}
 use Rattle.record.specs.Record.{read_as}
 use Rattle.row_saving.specs.Saving.{is_read}
 use Rattle.table_rows.specs.Table.{axes_in, row_at}

@@ -1,15 +1,15 @@
 -- Runs of calls on a table: docs/RULES.md, the calls of every section.
-use Rattle.std.specs.Prelude.{ℕ, ◌≡◌, cond, List, [], ◌∷◌, ◌++◌, eqb}
+use Rattle.std.specs.Prelude.{ℕ, ◌≡◌, cond, List, [], ◌∷◌, ◌++◌, eqb, Result, Ok, Err}
 use Rattle.fields.specs.Field.{flag_of}
 use Rattle.axis.specs.declared.row.Row.{Row}
 use Rattle.table_rows.specs.Table.{row_at}
 use Rattle.table_rows.specs.Located.{located, on_found}
 use Rattle.table_port.specs.Port.{sampled_table, sampled_answer}
-use Rattle.table_port.specs.declared.Sampled.{Sampled}
-use Rattle.table_port.specs.declared.Sampled.TheVariants.{Seen, Refused as Unsampled}
 use Rattle.table_change.specs.Making.{ruled, table_after}
 use Rattle.runs.specs.Told.{Told, marks, refused}
 use Rattle.runs.specs.Op.{Op, rule_of, answer_of}
+use Rattle.refusal.specs.declared.Refusal.{Refusal}
+use Rattle.table_port.specs.declared.Masks.{Masks}
 
 -- A call on a table: a port sample, or a call that names an axis.
 pub data Call : Type 0 where
@@ -31,9 +31,9 @@ table_run t [] = t
 table_run t (c ∷ cs) = table_run (table_next t c) cs
 
 -- The bits of axis k in the three masks, none on a refusal.
-unfoldable pub bits_of : ℕ → Sampled → List Told
-bits_of k (Seen m) = marks (record { double = flag_of k m.doubles; index = flag_of k m.index; broken = flag_of k m.broken }) ∷ []
-bits_of k (Unsampled e) = []
+unfoldable pub bits_of : ℕ → Result Masks Refusal → List Told
+bits_of k (Ok m) = marks (record { double = flag_of k m.doubles; index = flag_of k m.index; broken = flag_of k m.broken }) ∷ []
+bits_of k (Err e) = []
 
 -- The answer of a call that names axis k.
 unfoldable pub answer_in : List ℕ → ℕ → Op → Told

@@ -1,19 +1,9 @@
 -- What an axis is told: docs/RULES.md, "A port sample", "Calls that name one axis" and "Reasons for saying no".
-use Rattle.std.specs.Prelude.{ℕ, Bool, List, ℤ, take}
+use Rattle.std.specs.Prelude.{ℕ, Bool, List, ℤ, take, Result, Ok, Err, ⊤}
 use Rattle.refusal.specs.declared.Refusal.{Refusal}
-use Rattle.reckon.specs.declared.Reckoned.{Reckoned}
-use Rattle.reckon.specs.declared.Reckoned.TheVariants.{Number, Refused as Unreckoned}
 use Rattle.speed.specs.declared.Quotient.{Quotient}
-use Rattle.speed.specs.declared.Speed.{Speed}
-use Rattle.speed.specs.declared.Speed.TheVariants.{Of, Refused as Unsped}
 use Rattle.row_sample.specs.declared.SteppedRow.{SteppedRow}
-use Rattle.record.specs.declared.answer.Written.{Written}
-use Rattle.record.specs.declared.answer.Written.TheVariants.{Bytes, Refused as Unwritten}
-use Rattle.row_calls.specs.declared.answer.Done.{Done}
-use Rattle.row_calls.specs.declared.answer.Done.TheVariants.{Yes, Refused as Undone}
 use Rattle.row_view.specs.declared.answer.View.{View}
-use Rattle.row_view.specs.declared.answer.Viewed.{Viewed}
-use Rattle.row_view.specs.declared.answer.Viewed.TheVariants.{Shows, Refused as Unseen}
 
 -- An axis's bits of the three masks: double step, reference edge, broken row.
 pub record Marks : Type 0 where
@@ -36,23 +26,23 @@ pub data Told : Type 0 where
   wrote : ℕ → List ℕ → Told
 
 -- What the answers of the calls tell; a refusal is told alike by all.
-abbrev pub told_done : Done → Told
-told_done Yes = done
-told_done (Undone e) = refused e
+abbrev pub told_done : Result ⊤ Refusal → Told
+told_done (Ok _) = done
+told_done (Err e) = refused e
 
-abbrev pub told_view : Viewed → Told
-told_view (Shows v) = shown v
-told_view (Unseen e) = refused e
+abbrev pub told_view : Result View Refusal → Told
+told_view (Ok v) = shown v
+told_view (Err e) = refused e
 
-abbrev pub told_number : Reckoned → Told
-told_number (Number z) = number z
-told_number (Unreckoned e) = refused e
+abbrev pub told_number : Result ℤ Refusal → Told
+told_number (Ok z) = number z
+told_number (Err e) = refused e
 
-abbrev pub told_speed : Speed → Told
-told_speed (Of q) = quotient q
-told_speed (Unsped e) = refused e
+abbrev pub told_speed : Result Quotient Refusal → Told
+told_speed (Ok q) = quotient q
+told_speed (Err e) = refused e
 
 -- A save tells the bytes that it wrote, of what the buffer holds after it.
-abbrev pub told_bytes : Written → List ℕ → Told
-told_bytes (Bytes n) buffer = wrote n (take n buffer)
-told_bytes (Unwritten e) buffer = refused e
+abbrev pub told_bytes : Result ℕ Refusal → List ℕ → Told
+told_bytes (Ok n) buffer = wrote n (take n buffer)
+told_bytes (Err e) buffer = refused e

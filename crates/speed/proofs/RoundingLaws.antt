@@ -20,16 +20,6 @@ use Rattle.speed.specs.Rounding.{away_from, rounded, divided, Divides}
 
 -- ---- the machine's quotient, of numbers of the size that the code allows
 
-pub away_up : (n : ℤ) (t : ℕ) → minus n ≤ plus n → pos t ≡ away_from n t
-unfolding away_from
-away_up (pos a) t h = refl
-away_up (negsuc a) t h = absurd (omega arith)
-
-pub away_down : (n : ℤ) (t : ℕ) → plus n < minus n → neg_ℤ (pos t) ≡ away_from n t
-unfolding away_from
-away_down (pos a) t h = absurd (omega arith)
-away_down (negsuc a) t h = refl
-
 pub record Sized (n : ℤ) (t : ℕ) : Type 0 where
   pub small : nat_abs n < 2 ^ 61
   pub some : 0 < t

@@ -1,4 +1,5 @@
 -- What a speed by count answers, that nothing else would do, and how near it is to what it stands for.
+use Rattle.std.specs.Prelude.{Result, Ok, Err}
 use mathlib.Core.Path.{◌≡◌, sym, ap, subst}
 use mathlib.Core.Bool.{true, ◌&&◌, and-eq-true_iff}
 use mathlib.Core.Logic.{⊎_elim}
@@ -14,8 +15,6 @@ use Rattle.refusal.specs.declared.Refusal.{Refusal}
 use Rattle.refusal.specs.declared.Refusal.TheVariants.{Value}
 use Rattle.refusal.proofs.RefusalLaws.{told_apart, above_zero}
 use Rattle.speed.specs.declared.Quotient.{Quotient}
-use Rattle.speed.specs.declared.Speed.{Speed}
-use Rattle.speed.specs.declared.Speed.TheVariants.{Of, Refused}
 use Rattle.speed.specs.Rounding.{divided, Divides}
 use Rattle.speed.specs.Speed.{speed_refusal, speed_found, quotient_in, good_count, good_samples, good_rate, good_speed, speed_by_count}
 use Rattle.speed.specs.Speed.{counted_from, angle_bound}
@@ -24,15 +23,15 @@ use Rattle.speed.proofs.RoundingLaws.{divides, divides_only, near}
 -- ---- a speed by its numbers
 
 -- What is refused is no speed.
-pub unsped_not : (q : Quotient) (e : Refusal) → Refused e ≡ Of q → ⊥
+pub unsped_not : (q : Quotient) (e : Refusal) → Err e ≡ Ok q → ⊥
 unsped_not q e h = let z : ◌≡◌ {A = ℕ} 0 1 = cc in omega arith
 
 -- Two speeds with one refusal number, one found number and one quotient are one speed.
-pub speed_told : (a b : Speed) → speed_refusal a ≡ speed_refusal b → speed_found a ≡ speed_found b → quotient_in a ≡ quotient_in b → a ≡ b
-speed_told (Of p) (Of q) n f e = ap Of e
-speed_told (Of p) (Refused d) n f e = absurd (above_zero d (sym n))
-speed_told (Refused d) (Of q) n f e = absurd (above_zero d n)
-speed_told (Refused d) (Refused g) n f e = ap Refused (told_apart d g n f)
+pub speed_told : (a b : Result Quotient Refusal) → speed_refusal a ≡ speed_refusal b → speed_found a ≡ speed_found b → quotient_in a ≡ quotient_in b → a ≡ b
+speed_told (Ok p) (Ok q) n f e = ap Ok e
+speed_told (Ok p) (Err d) n f e = absurd (above_zero d (sym n))
+speed_told (Err d) (Ok q) n f e = absurd (above_zero d n)
+speed_told (Err d) (Err g) n f e = ap Err (told_apart d g n f)
 
 -- ---- the limits, and the size of 1000 D F
 
@@ -111,7 +110,7 @@ divides_shaft α β (suc k) T F {q} hs h =
     ⊎_elim (λ q. omega (arith, q)) (λ q. omega (arith, q)) (far_cases (X *ℤ pos (suc k)) (Δ *ℤ pos f))
 
 -- a speed is given only where every argument is within its limits, and is the quotient
-module _ (D : ℤ) (T F : ℕ) (q : Quotient) (h : speed_by_count D T F ≡ Of q) where
+module _ (D : ℤ) (T F : ℕ) (q : Quotient) (h : speed_by_count D T F ≡ Ok q) where
   pub speed_given : (good_speed D T F ≡ true) × (q ≡ divided (D *ℤ pos (1000 * F)) T)
   unfolding speed_by_count
   speed_given = go (test (good_speed D T F))
@@ -136,12 +135,12 @@ module _ (D : ℤ) (T F : ℕ) (q : Quotient) (h : speed_by_count D T F ≡ Of q
 
 -- Within the limits no other number and remainder than those that divide are answered.
 pub speed_only : (D : ℤ) (T F : ℕ) → good_speed D T F ≡ true → (q : Quotient) → Divides (D *ℤ pos (1000 * F)) T q →
-    speed_by_count D T F ≡ Of q
+    speed_by_count D T F ≡ Ok q
 unfolding speed_by_count
-speed_only D T F good q h = rw good (ap Of (sym (divides_only (D *ℤ pos (1000 * F)) T q h)))
+speed_only D T F good q h = rw good (ap Ok (sym (divides_only (D *ℤ pos (1000 * F)) T q h)))
 
 -- The second bound: where D is the difference of two counts that are floors of shaft angles in s-ths of a count, twice
 -- |v T s - 1000 F (angle difference)| is at most 2000 F (s - 1) + T s.
-pub speed_of_shaft : (α β : ℤ) (s T F : ℕ) (q : Quotient) → 0 < s → speed_by_count (counted_from α β s) T F ≡ Of q →
+pub speed_of_shaft : (α β : ℤ) (s T F : ℕ) (q : Quotient) → 0 < s → speed_by_count (counted_from α β s) T F ≡ Ok q →
     2 * nat_abs (((q.number *ℤ pos T) *ℤ pos s) -ℤ ((β -ℤ α) *ℤ pos (1000 * F))) ≤ angle_bound s T F
 speed_of_shaft α β s T F q some h = divides_shaft α β s T F some (speed_divides (counted_from α β s) T F q h)

@@ -1,31 +1,30 @@
 -- Speed by count, and how near it is: docs/RULES.md, "Calls that name one axis", Speed by count.
-use Rattle.std.specs.Prelude.{Bool, cond, ◌&&◌, ℕ, ◌+◌, ◌*◌, ◌-◌, ◌^◌, ltb, leb, ℤ, pos, nat_abs, ◌*ℤ◌, ◌-ℤ◌}
+use Rattle.std.specs.Prelude.{Bool, cond, ◌&&◌, ℕ, ◌+◌, ◌*◌, ◌-◌, ◌^◌, ltb, leb, ℤ, pos, nat_abs, ◌*ℤ◌, ◌-ℤ◌, Result, Ok, Err}
 use Rattle.integers.specs.Integer.{floor_z}
 use Rattle.refusal.specs.Refusal.{number_of, found_in}
 use Rattle.refusal.specs.declared.Refusal.TheVariants.{Value}
 use Rattle.speed.specs.Rounding.{divided}
 use Rattle.speed.specs.declared.Quotient.{Quotient}
-use Rattle.speed.specs.declared.Speed.{Speed}
-use Rattle.speed.specs.declared.Speed.TheVariants.{Of, Refused}
+use Rattle.refusal.specs.declared.Refusal.{Refusal}
 
 -- The number of a speed's refusal, 0 where there is none.
-abbrev pub speed_refusal : Speed → ℕ
-speed_refusal (Of q) = 0
-speed_refusal (Refused e) = number_of e
+abbrev pub speed_refusal : Result Quotient Refusal → ℕ
+speed_refusal (Ok q) = 0
+speed_refusal (Err e) = number_of e
 
 -- The layout number that the refusal carries, 0 where it carries none.
-abbrev pub speed_found : Speed → ℕ
-speed_found (Of q) = 0
-speed_found (Refused e) = found_in e
+abbrev pub speed_found : Result Quotient Refusal → ℕ
+speed_found (Ok q) = 0
+speed_found (Err e) = found_in e
 
 -- The quotient of a refusal: every value is 0.
 abbrev pub no_quotient : Quotient
 no_quotient = record { number = pos 0; remainder = pos 0; divisor = 0 }
 
 -- Number, remainder and divisor of a speed, all 0 on a refusal.
-abbrev pub quotient_in : Speed → Quotient
-quotient_in (Of q) = q
-quotient_in (Refused e) = no_quotient
+abbrev pub quotient_in : Result Quotient Refusal → Quotient
+quotient_in (Ok q) = q
+quotient_in (Err e) = no_quotient
 
 -- A count difference is at most 2 ^ 31 - 1 in size.
 unfoldable pub good_count : ℤ → Bool
@@ -44,8 +43,8 @@ unfoldable pub good_speed : ℤ → ℕ → ℕ → Bool
 good_speed D T F = good_count D && good_samples T && good_rate F
 
 -- The speed of the count difference D over T samples at rate F: 1000 D F over T, in thousandths of a count a second.
-unfoldable pub speed_by_count : ℤ → ℕ → ℕ → Speed
-speed_by_count D T F = cond (good_speed D T F) (Of (divided (D *ℤ pos (1000 * F)) T)) (Refused Value)
+unfoldable pub speed_by_count : ℤ → ℕ → ℕ → Result Quotient Refusal
+speed_by_count D T F = cond (good_speed D T F) (Ok (divided (D *ℤ pos (1000 * F)) T)) (Err Value)
 
 -- The difference of two counts that are floors of shaft angles in s-ths of a count.
 abbrev pub counted_from : ℤ → ℤ → ℕ → ℤ

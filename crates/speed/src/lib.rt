@@ -8,51 +8,43 @@ ghost use Rattle.speed.specs.Speed.{good_count, good_samples, good_rate, speed_b
 use refusal::Refusal;
 
 // A number to the nearest, what it leaves, and what was divided by: number times divisor plus remainder is exact.
-#[derive(Clone, Copy)]
+#[derive(Clone, Copy, Debug, PartialEq, Eq)]
 pub struct Quotient {
     pub number: i64,
     pub remainder: i64,
     pub divisor: u64,
 }
 
-// What a speed answers: thousandths of a count a second with what they leave, or the reason for saying no.
-#[derive(Clone, Copy)]
-pub enum Speed {
-    Of(Quotient),
-    Refused(Refusal),
-}
-
 // Whether a count difference is within its limits.
+#[tactic(auto, unfolding(crate::specs::Speed::good_count))]
 fn is_count(difference: i64) -> bool
     ensures { result ≡ good_count difference }
 {
-    -0x7fff_ffff <= difference && difference < 0x8000_0000
+    difference.unsigned_abs() < 0x8000_0000
 }
 
 // Whether a number of samples is within its limits.
 fn is_samples(samples: u64) -> bool
     ensures { result ≡ good_samples samples }
 {
-    (1 <= samples) & (samples <= 0xffff_ffff)
+    (1..=0xffff_ffff).contains(&samples)
 }
 
 // Whether a rate, in samples a second, is within its limits.
 pub fn is_rate(rate: u64) -> bool
     ensures { result ≡ good_rate rate }
 {
-    (1 <= rate) & (rate <= 1_000_000)
+    (1..=1_000_000).contains(&rate)
 }
 
 // The divisor, on the side of zero where n lies.
+#[tactic(auto, unfolding(crate::specs::Rounding::away_from))]
 fn away(n: i64, divisor: u64) -> i64
     requires { divisor < 2 ^ 32 }
     ensures { result ≡ away_from n divisor }
 {
     let t = divisor as i64;
-    if n < 0 {
-        return -t;
-    }
-    t
+    if n < 0 { -t } else { t }
 }
 
 // n over the divisor, to the nearest whole number, halves away from zero.
@@ -73,19 +65,20 @@ fn divide(n: i64, divisor: u64) -> Quotient
     let t = divisor as i64;
     let remainder = n - number * t;
     Quotient {
-        number: number,
-        remainder: remainder,
-        divisor: divisor,
+        number,
+        remainder,
+        divisor,
     }
 }
 
 // The speed of a count difference over a number of samples, in thousandths of a count a second.
-pub fn by_count(difference: i64, samples: u64, rate: u64) -> Speed
+#[tactic(auto, unfolding(crate::specs::Speed::speed_by_count, crate::specs::Speed::good_speed), using(crate::proofs::SpeedLaws::limits, crate::proofs::SpeedLaws::product_small))]
+pub fn by_count(difference: i64, samples: u64, rate: u64) -> Result<Quotient, Refusal>
     ensures { result ≡ speed_by_count difference samples rate }
 {
     if !(is_count(difference) & is_samples(samples) & is_rate(rate)) {
-        return Speed::Refused(Refusal::Value);
+        return Err(Refusal::Value);
     }
     let f = (1000 * rate) as i64;
-    Speed::Of(divide(difference * f, samples))
+    Ok(divide(difference * f, samples))
 }

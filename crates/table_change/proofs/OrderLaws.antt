@@ -1,4 +1,5 @@
 -- The order of the reasons in any call that names one axis, and in the five of this room: docs/RULES.md, "Reasons for saying no".
+use Rattle.std.specs.Prelude.{Result, Ok, Err, ⊤}
 use Prim.Native.Nat.{ℕ, ◌*◌, ◌<◌, ◌≤◌}
 use native.Mathlib.Nat.{le_refl}
 use native.Mathlib.Omega.{arith}
@@ -24,16 +25,12 @@ use Rattle.axis_sound.specs.declared.Status.{Status}
 use Rattle.axis_sound.specs.declared.Status.TheVariants.{Empty, Sampled, Counter, Broken}
 use Rattle.row_calls.specs.Answer.{done_of, done_number, changed_number}
 use Rattle.row_calls.specs.Calls.{by_status, setup_row, erase_row, preset_row, arm_row, acknowledge_row}
-use Rattle.row_calls.specs.declared.answer.Changed.{Changed}
-use Rattle.row_calls.specs.declared.answer.Changed.TheVariants.{Kept}
-use Rattle.row_calls.specs.declared.answer.Done.{Done}
 use Rattle.row_calls.proofs.ReasonLaws.{Past, place_past}
 use Rattle.row_calls.proofs.SetupLaws.{setup_occupied}
 use Rattle.table_rows.specs.Table.{axes_in, row_at}
 use Rattle.table_rows.specs.Located.{located, on_found}
 use Rattle.table_change.specs.Making.{Makes}
 use Rattle.table_change.specs.Order.{Ordered}
-use Rattle.table_rows.specs.declared.Located.TheVariants.{At, Refused}
 use Rattle.table_rows.proofs.RowsLaws.{axes_of, length_wrong}
 use Rattle.table_rows.proofs.LocatedLaws.{found_none, found_past, found_at}
 
@@ -41,9 +38,9 @@ use Rattle.table_rows.proofs.LocatedLaws.{found_none, found_past, found_at}
 
 -- The three ways to look for a row.
 data Search (t : List ℕ) (k : ℕ) : Type 0 where
-  none : axes_in (length t) ≡ 0 → located t k ≡ Refused Length → Search t k
-  past : axes_in (length t) ≢ 0 → axes_in (length t) ≤ k → located t k ≡ Refused Axis → Search t k
-  there : k < axes_in (length t) → located t k ≡ At (row_at t k) → Search t k
+  none : axes_in (length t) ≡ 0 → located t k ≡ Err Length → Search t k
+  past : axes_in (length t) ≢ 0 → axes_in (length t) ≤ k → located t k ≡ Err Axis → Search t k
+  there : k < axes_in (length t) → located t k ≡ Ok (row_at t k) → Search t k
 
 search : (t : List ℕ) (k : ℕ) → Search t k
 search t k = go (eqb (axes_in (length t)) 0) refl (ltb k (axes_in (length t))) refl
@@ -59,7 +56,7 @@ search t k = go (eqb (axes_in (length t)) 0) refl (ltb k (axes_in (length t))) r
 module _ {A : Type 0} (number : A → ℕ) (refuse : Refusal → A) (same : (e : Refusal) → number (refuse e) ≡ number_of e)
     (say : Row → A) (t : List ℕ) (k : ℕ) where
   -- A call that is refused for want of a row is not refused for another reason.
-  only : (e f : Refusal) → number_of e ≢ number_of f → located t k ≡ Refused e → number (on_found refuse say (located t k)) ≢ number_of f
+  only : (e f : Refusal) → number_of e ≢ number_of f → located t k ≡ Err e → number (on_found refuse say (located t k)) ≢ number_of f
   only e f n q w = n (sym (same e) ∙ rw q at w)
 
   -- A call whose own rule gives only later reasons, in an order with LENGTH before AXIS, says both exactly where their lines do.
@@ -151,7 +148,7 @@ setup_in_turn kind depth width turn r = (
   λ bad. rw bad (go (is_empty r)),
 )
   where
-    go : (b : Bool) → ByThen checked VALUE (changed_number (cond b (Kept VALUE) (Kept OCCUPIED)))
+    go : (b : Bool) → ByThen checked VALUE (changed_number (cond b (Err VALUE) (Err OCCUPIED)))
     go true = lit≤ tt
     go false = lit≤ tt
 
@@ -161,22 +158,22 @@ erase_late r = inl refl
 
 pub preset_late : (p : ℤ) (r : Row) → After checked Axis (changed_number (preset_row p r))
 unfolding preset_row
-preset_late p r = by_status_lem changed_number Kept (λ e. refl) _ _ (late (place_past p r)) (late (place_past p r)) (status_of r)
+preset_late p r = by_status_lem changed_number Err (λ e. refl) _ _ (late (place_past p r)) (late (place_past p r)) (status_of r)
 
 pub arm_late : (r : Row) → After checked Axis (changed_number (arm_row r))
 unfolding arm_row
-arm_late r = by_status_lem changed_number Kept (λ e. refl) _ _ (inl refl) (inr (lit< tt)) (status_of r)
+arm_late r = by_status_lem changed_number Err (λ e. refl) _ _ (inl refl) (inr (lit< tt)) (status_of r)
 
 pub acknowledge_late : (r : Row) → After checked Axis (changed_number (acknowledge_row r))
 unfolding acknowledge_row
-acknowledge_late r = by_status_lem changed_number Kept (λ e. refl) _ _ (inl refl) (inr (lit< tt)) (status_of r)
+acknowledge_late r = by_status_lem changed_number Err (λ e. refl) _ _ (inl refl) (inr (lit< tt)) (status_of r)
 
 -- ---- the calls
 
-module _ (rule : Row → Changed) {t u : List ℕ} {k : ℕ} {a : Done} (w : Makes rule t k u a) where
+module _ (rule : Row → Result Row Refusal) {t u : List ℕ} {k : ℕ} {a : Result ⊤ Refusal} (w : Makes rule t k u a) where
   ordered_by : ((r : Row) → After checked Axis (changed_number (rule r))) → Ordered done_number (λ r. done_of (rule r)) t k a
   ordered_by late =
-      let o = in_order changed_number Kept (λ e. refl) rule t k late in
+      let o = in_order changed_number Err (λ e. refl) rule t k late in
       rw w.answer (record { slice = o.slice; named = o.named; own = λ h. ap done_of (o.own h) })
 
   -- A call that asks for no axis in the row.
@@ -184,30 +181,30 @@ module _ (rule : Row → Changed) {t u : List ℕ} {k : ℕ} {a : Done} (w : Mak
       Ordered done_number (λ r. done_of (rule r)) t k a × ((done_number a ≢ number_of BROKEN) × (done_number a ≢ number_of EMPTY))
   any_ordered later = (
     ordered_by (λ r. after_sooner checked KIND Axis (lit≤ tt) (later r)),
-    rw w.answer (any_row_lem changed_number Kept (λ e. refl) rule t k (λ r. after_sooner checked KIND EMPTY (lit≤ tt) (later r))),
+    rw w.answer (any_row_lem changed_number Err (λ e. refl) rule t k (λ r. after_sooner checked KIND EMPTY (lit≤ tt) (later r))),
   )
 
 -- Setup says LENGTH, then AXIS, then its own, and never BROKEN or EMPTY.
-pub setup_ordered : (kind depth width turn : ℕ) {t u : List ℕ} {k : ℕ} {a : Done} → Makes (setup_row kind depth width turn) t k u a →
+pub setup_ordered : (kind depth width turn : ℕ) {t u : List ℕ} {k : ℕ} {a : Result ⊤ Refusal} → Makes (setup_row kind depth width turn) t k u a →
     Ordered done_number (λ r. done_of (setup_row kind depth width turn r)) t k a ×
     ((done_number a ≢ number_of BROKEN) × (done_number a ≢ number_of EMPTY))
 setup_ordered kind depth width turn w = any_ordered _ w (setup_late kind depth width turn)
 
 -- So does erase.
-pub erase_ordered : {t u : List ℕ} {k : ℕ} {a : Done} → Makes erase_row t k u a →
+pub erase_ordered : {t u : List ℕ} {k : ℕ} {a : Result ⊤ Refusal} → Makes erase_row t k u a →
     Ordered done_number (λ r. done_of (erase_row r)) t k a × ((done_number a ≢ number_of BROKEN) × (done_number a ≢ number_of EMPTY))
 erase_ordered w = any_ordered _ w erase_late
 
 -- Preset says LENGTH, then AXIS, then its own.
-pub preset_ordered : (p : ℤ) {t u : List ℕ} {k : ℕ} {a : Done} → Makes (preset_row p) t k u a →
+pub preset_ordered : (p : ℤ) {t u : List ℕ} {k : ℕ} {a : Result ⊤ Refusal} → Makes (preset_row p) t k u a →
     Ordered done_number (λ r. done_of (preset_row p r)) t k a
 preset_ordered p w = ordered_by _ w (preset_late p)
 
 -- So does arm.
-pub arm_ordered : {t u : List ℕ} {k : ℕ} {a : Done} → Makes arm_row t k u a → Ordered done_number (λ r. done_of (arm_row r)) t k a
+pub arm_ordered : {t u : List ℕ} {k : ℕ} {a : Result ⊤ Refusal} → Makes arm_row t k u a → Ordered done_number (λ r. done_of (arm_row r)) t k a
 arm_ordered w = ordered_by _ w arm_late
 
 -- So does acknowledge.
-pub acknowledge_ordered : {t u : List ℕ} {k : ℕ} {a : Done} → Makes acknowledge_row t k u a →
+pub acknowledge_ordered : {t u : List ℕ} {k : ℕ} {a : Result ⊤ Refusal} → Makes acknowledge_row t k u a →
     Ordered done_number (λ r. done_of (acknowledge_row r)) t k a
 acknowledge_ordered w = ordered_by _ w acknowledge_late

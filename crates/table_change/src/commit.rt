@@ -1,30 +1,33 @@
-// What a call makes of the named row, written back or not; and the calls that make another row and answer only that they did, all at once.
-ghost use Rattle.std.specs.Prelude.{◌+◌, ◌*◌, ◌≤◌, length};
-ghost use Rattle.row_calls.specs.Calls.{change_row};
+// What a call makes of the named row, written back or not.
+ghost use Rattle.std.specs.Prelude.{◌≡◌, ◌+◌, ◌*◌, ◌≤◌, length, Result};
+ghost use Rattle.refusal.specs.declared.Refusal.{Refusal};
+ghost use Rattle.axis.specs.declared.row.Row.{Row};
 ghost use Rattle.table_change.specs.Making.{Commits, Makes};
 
-use row_calls::answer::{Changed, Done, answered};
-use row_calls::apply::{Change, apply};
-use table_rows::{Located, locate, write_row};
+use axis::row::Row;
+use refusal::Refusal;
+use table_rows::{locate, write_row};
 
 // The row that the call made takes the named one's place, or every word stays.
-pub fn commit(table: &mut [u64], axis: u64, change: Changed) -> Done
+pub fn commit(table: &mut [u64], axis: u64, change: Result<Row, Refusal>) -> Result<(), Refusal>
     requires { axis * 4 + 4 ≤ length table.old }
     ensures { Commits change table.old axis table.new result }
 {
-    let Changed::To(row) = change else {
-        return answered(change);
-    };
-    write_row(table, axis as usize, row);
-    answered(change)
+    write_row(table, axis as usize, change?);
+    Ok(())
 }
 
-// A change of the named row: LENGTH, AXIS, then the change's own reasons.
-pub(crate) fn make(table: &mut [u64], axis: u64, change: Change) -> Done
-    ensures { Makes (change_row change) table.old axis table.new result }
+// What a rule makes of the named row, written back: LENGTH, AXIS, then the rule's own reasons.
+pub fn make<F: FnOnce(Row) -> Result<Row, Refusal>>(
+    table: &mut [u64],
+    axis: u64,
+    change: F,
+) -> Result<(), Refusal>
+    requires { F.IsAlwaysCallable change }
+    ensures { (rule : Row → Result Row Refusal)
+        → ((r : Row) (c : Result Row Refusal) → F.post change r c → c ≡ rule r)
+        → Makes rule table.old axis table.new result }
 {
-    match locate(table, axis) {
-        Located::Refused(e) => Done::Refused(e),
-        Located::At(row) => commit(table, axis, apply(row, change)),
-    }
+    let row = locate(table, axis)?;
+    commit(table, axis, change(row))
 }

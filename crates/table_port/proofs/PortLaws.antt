@@ -1,4 +1,5 @@
 -- The laws of a port sample on a table: docs/RULES.md, "A port sample".
+use Rattle.std.specs.Prelude.{Ok, Err}
 use Prim.Native.Nat.{ℕ, zero, suc, ◌+◌, ◌*◌, ◌≤◌, ◌<◌}
 use native.Mathlib.Nat.{add-zero, le_refl, eq-or-lt_of_le, le_of_suc-le-suc}
 use native.Mathlib.Numerals.{add-one}
@@ -25,7 +26,6 @@ use Rattle.table_rows.specs.Table.{axes_in, row_at, set_row, AllWords}
 use Rattle.table_port.specs.Port.{nibble, step_at, sampled_to, mask_of, masks_to, noted, Below}
 use Rattle.table_port.specs.Port.{sampled_table, sampled_answer, Samples, Bits, Stays}
 use Rattle.table_port.specs.declared.Masks.{Masks}
-use Rattle.table_port.specs.declared.Sampled.TheVariants.{Seen, Refused}
 use Rattle.table_rows.proofs.RowsLaws.{axes_fit, length_set_row, row_same, row_other, row_words, set_words}
 use Rattle.table_port.proofs.MaskLaws.{mask_below, mask_same, mask_bit, mask_above}
 
@@ -96,13 +96,13 @@ lines_step r p q k e = fourth_unread r (nibble p k) (nibble q k) (low_three p k 
 -- ---- a whole sample
 
 -- A slice that holds no axis is refused, and stays.
-pub sample_none : (t : List ℕ) (port : ℕ) → axes_in (length t) ≡ 0 → Samples t port t (Refused Length)
+pub sample_none : (t : List ℕ) (port : ℕ) → axes_in (length t) ≡ 0 → Samples t port t (Err Length)
 unfolding sampled_answer sampled_table sampled_to
 sample_none t port e = record { answer = rw (eq-eqb _ _ e); table = rw e }
 
 -- Else all n rows are sampled.
 pub sample_all : (t : List ℕ) (port n : ℕ) → n ≡ axes_in (length t) → n ≢ 0 →
-    Samples t port (sampled_to n t (nibble port)) (Seen (masks_to n t (nibble port)))
+    Samples t port (sampled_to n t (nibble port)) (Ok (masks_to n t (nibble port)))
 unfolding sampled_answer sampled_table
 sample_all t port n e h = record { answer = rw (← e, ne_eqb n 0 h); table = rw e }
 
@@ -113,22 +113,22 @@ module _ (t : List ℕ) (port : ℕ) where
   sample_length = length_sampled_to t (nibble port) (axes_in (length t))
 
   -- A sample is refused exactly where the slice holds no axis, and then by LENGTH.
-  pub sample_refused : (e : Refusal) → (sampled_answer t port ≡ Refused e) ↔ ((axes_in (length t) ≡ 0) × (e ≡ Length))
+  pub sample_refused : (e : Refusal) → (sampled_answer t port ≡ Err e) ↔ ((axes_in (length t) ≡ 0) × (e ≡ Length))
   unfolding sampled_answer
   sample_refused e = (go (eqb (axes_in (length t)) 0) refl, λ h. rw (eq-eqb _ _ h.0, h.1))
     where
       go : (b : Bool) → eqb (axes_in (length t)) 0 ≡ b →
-          cond b (Refused Length) (Seen (masks_to (axes_in (length t)) t (nibble port))) ≡ Refused e →
+          cond b (Err Length) (Ok (masks_to (axes_in (length t)) t (nibble port))) ≡ Err e →
           (axes_in (length t) ≡ 0) × (e ≡ Length)
       go true z q = (eqb-true _ _ z, cc)
       go false z q = absurd (let n : ◌≡◌ {A = ℕ} 0 1 = cc in omega arith)
 
   -- A refused sample keeps every word.
-  pub refused_keeps : (e : Refusal) → sampled_answer t port ≡ Refused e → sampled_table t port ≡ t
+  pub refused_keeps : (e : Refusal) → sampled_answer t port ≡ Err e → sampled_table t port ≡ t
   refused_keeps e q = sym (sample_none t port ((sample_refused e).0 q).0).table
 
   -- The masks that a sample answers are those of its n rows.
-  seen : (m : Masks) → sampled_answer t port ≡ Seen m → m ≡ masks_to (axes_in (length t)) t (nibble port)
+  seen : (m : Masks) → sampled_answer t port ≡ Ok m → m ≡ masks_to (axes_in (length t)) t (nibble port)
   seen m q = go (eqb (axes_in (length t)) 0) refl
     where
       go : (b : Bool) → eqb (axes_in (length t)) 0 ≡ b → m ≡ masks_to (axes_in (length t)) t (nibble port)
@@ -138,7 +138,7 @@ module _ (t : List ℕ) (port : ℕ) where
       go false z = let w = sample_all t port (axes_in (length t)) refl (eqb-false _ _ z) in cc w.answer
 
   -- No mask has a bit of an axis that there is not.
-  pub bits_above : (k : ℕ) → axes_in (length t) ≤ k → (m : Masks) → sampled_answer t port ≡ Seen m → Bits m k false false false
+  pub bits_above : (k : ℕ) → axes_in (length t) ≤ k → (m : Masks) → sampled_answer t port ≡ Ok m → Bits m k false false false
   unfolding masks_to
   bits_above k h m q =
       let e = seen m q in
@@ -152,7 +152,7 @@ module _ (t : List ℕ) (port : ℕ) where
     sample_row = row_stepped t (nibble port) (axes_in (length t)) k (axes_fit (length t)) h
 
     -- Each row's bits of the answer are its own step's.
-    pub sample_bits : (m : Masks) → sampled_answer t port ≡ Seen m →
+    pub sample_bits : (m : Masks) → sampled_answer t port ≡ Ok m →
         let s = step_row (row_at t k) (nibble port k) in
         Bits m k s.double s.index s.broken
     unfolding masks_to
@@ -177,7 +177,7 @@ module _ (t : List ℕ) (port : ℕ) where
     broken_row s = stays true (broken_stays (row_at t k) (nibble port k) s)
 
     -- No other row sets that bit.
-    pub broken_only : (m : Masks) → sampled_answer t port ≡ Seen m → flag_of k m.broken ≡ true → status_of (row_at t k) ≡ Broken
+    pub broken_only : (m : Masks) → sampled_answer t port ≡ Ok m → flag_of k m.broken ≡ true → status_of (row_at t k) ≡ Broken
     broken_only m q f = go (status_of (row_at t k)) refl
       where
         no : {A : Type 0} → flag_of k m.broken ≡ false → A
@@ -202,7 +202,7 @@ module _ (t : List ℕ) (port : ℕ) where
 pub sample_apart : (t u : List ℕ) (p q k : ℕ) → k < axes_in (length t) → k < axes_in (length u) →
     row_at t k ≡ row_at u k → field_of (k * 4) 3 p ≡ field_of (k * 4) 3 q →
     (row_at (sampled_table t p) k ≡ row_at (sampled_table u q) k) ×
-    ((m o : Masks) → sampled_answer t p ≡ Seen m → sampled_answer u q ≡ Seen o →
+    ((m o : Masks) → sampled_answer t p ≡ Ok m → sampled_answer u q ≡ Ok o →
     Bits m k (flag_of k o.doubles) (flag_of k o.index) (flag_of k o.broken))
 sample_apart t u p q k h i r b =
     let e : step_at t (nibble p) k ≡ step_at u (nibble q) k = rw r (lines_step (row_at u k) p q k b) in (

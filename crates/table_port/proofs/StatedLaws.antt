@@ -1,4 +1,5 @@
 -- What docs/RULES.md states of a port word and of the answer, "A port sample", computed to its end.
+use Rattle.std.specs.Prelude.{Ok, Err}
 use Prim.Native.Nat.{ℕ}
 use mathlib.Core.Path.{◌≡◌, refl}
 use mathlib.Core.Bool.{Bool, true, false}
@@ -8,7 +9,6 @@ use Rattle.axis.specs.Row.{empty_row}
 use Rattle.row_sample.specs.declared.SteppedRow.{SteppedRow}
 use Rattle.table_port.specs.Port.{nibble, put_bit, noted, sampled_number, sampled_found, sampled_masks}
 use Rattle.table_port.specs.declared.Masks.{Masks}
-use Rattle.table_port.specs.declared.Sampled.TheVariants.{Seen, Refused}
 
 -- Axis k owns bits 4k to 4k + 3: the port word FEDCBA9876543210 gives axis k the four bits of k, and no axis more.
 pub port_stated :
@@ -34,8 +34,8 @@ masks_stated = refl
 
 -- A sample that was not refused answers number 0 and its masks; one that was, 1 for LENGTH, and no mask.
 pub answers_stated :
-    let seen = Seen (masks 1 2 4) in
-    let refused = Refused Length in
+    let seen = Ok (masks 1 2 4) in
+    let refused = Err Length in
     (sampled_number seen ≡ 0) × (sampled_found seen ≡ 0) × (sampled_masks seen ≡ masks 1 2 4)
     × (sampled_number refused ≡ 1) × (sampled_found refused ≡ 0) × (sampled_masks refused ≡ masks 0 0 0)
 answers_stated = (refl, refl, refl, refl, refl, refl)

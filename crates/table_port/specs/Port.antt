@@ -1,5 +1,5 @@
 -- A port sample on a table: docs/RULES.md, "A port sample".
-use Rattle.std.specs.Prelude.{ℕ, zero, suc, ◌+◌, ◌*◌, ◌^◌, ◌<◌, ◌≡◌, Bool, false, cond, List, eqb, length}
+use Rattle.std.specs.Prelude.{ℕ, zero, suc, ◌+◌, ◌*◌, ◌^◌, ◌<◌, ◌≡◌, Bool, false, cond, List, eqb, length, Result, Ok, Err}
 use Rattle.refusal.specs.Refusal.{number_of, found_in}
 use Rattle.refusal.specs.declared.Refusal.TheVariants.{Length}
 use Rattle.fields.specs.Field.{field_of, flag_of}
@@ -7,8 +7,7 @@ use Rattle.row_sample.specs.Sample.{step_row}
 use Rattle.row_sample.specs.declared.SteppedRow.{SteppedRow}
 use Rattle.table_rows.specs.Table.{axes_in, row_at, set_row}
 use Rattle.table_port.specs.declared.Masks.{Masks}
-use Rattle.table_port.specs.declared.Sampled.{Sampled}
-use Rattle.table_port.specs.declared.Sampled.TheVariants.{Seen, Refused}
+use Rattle.refusal.specs.declared.Refusal.{Refusal}
 
 -- The four bits of a port word that axis k owns.
 unfoldable pub nibble : ℕ → ℕ → ℕ
@@ -64,12 +63,12 @@ unfoldable pub sampled_table : List ℕ → ℕ → List ℕ
 sampled_table t port = sampled_to (axes_in (length t)) t (nibble port)
 
 -- The answer of a port sample; LENGTH is its only refusal.
-unfoldable pub sampled_answer : List ℕ → ℕ → Sampled
+unfoldable pub sampled_answer : List ℕ → ℕ → Result Masks Refusal
 sampled_answer t port =
-    cond (eqb (axes_in (length t)) 0) (Refused Length) (Seen (masks_to (axes_in (length t)) t (nibble port)))
+    cond (eqb (axes_in (length t)) 0) (Err Length) (Ok (masks_to (axes_in (length t)) t (nibble port)))
 
 -- What a port sample promises: t before, u after, and the answer.
-pub record Samples (t : List ℕ) (port : ℕ) (u : List ℕ) (a : Sampled) : Type 0 where
+pub record Samples (t : List ℕ) (port : ℕ) (u : List ℕ) (a : Result Masks Refusal) : Type 0 where
   pub answer : a ≡ sampled_answer t port
   pub table : u ≡ sampled_table t port
 
@@ -82,19 +81,19 @@ pub record Bits (m : Masks) (k : ℕ) (double edge bad : Bool) : Type 0 where
 -- Row k keeps every word through a sample, and sets no bit but perhaps that of the broken rows.
 pub record Stays (t : List ℕ) (port k : ℕ) (bad : Bool) : Type 0 where
   pub row : row_at (sampled_table t port) k ≡ row_at t k
-  pub bits : (m : Masks) → sampled_answer t port ≡ Seen m → Bits m k false false bad
+  pub bits : (m : Masks) → sampled_answer t port ≡ Ok m → Bits m k false false bad
 
 -- The number of the refusal, 0 where there is none.
-abbrev pub sampled_number : Sampled → ℕ
-sampled_number (Seen m) = 0
-sampled_number (Refused e) = number_of e
+abbrev pub sampled_number : Result Masks Refusal → ℕ
+sampled_number (Ok m) = 0
+sampled_number (Err e) = number_of e
 
 -- The layout number that the refusal carries, 0 where it carries none.
-abbrev pub sampled_found : Sampled → ℕ
-sampled_found (Seen m) = 0
-sampled_found (Refused e) = found_in e
+abbrev pub sampled_found : Result Masks Refusal → ℕ
+sampled_found (Ok m) = 0
+sampled_found (Err e) = found_in e
 
 -- The three masks, all 0 on a refusal.
-abbrev pub sampled_masks : Sampled → Masks
-sampled_masks (Seen m) = m
-sampled_masks (Refused e) = record { doubles = 0; index = 0; broken = 0 }
+abbrev pub sampled_masks : Result Masks Refusal → Masks
+sampled_masks (Ok m) = m
+sampled_masks (Err e) = record { doubles = 0; index = 0; broken = 0 }

@@ -3,33 +3,18 @@
 
 ghost use Rattle.std.specs.Prelude.{◌≡◌, ◌+◌, ◌*◌, ◌^◌, ◌<◌, ◌≤◌, length};
 ghost use Rattle.axis.specs.Limit.{most_axes};
-ghost use Rattle.table_port.specs.Port.{nibble, put_bit, noted, Below, SamplesRow, Samples};
+ghost use Rattle.table_port.specs.Port.{put_bit, noted, Below, SamplesRow, Samples};
 
 use refusal::Refusal;
 use row_sample::{SteppedRow, step_row};
 use table_rows::{axes_in, read_row, write_row};
 
 // Bit k is axis k's.
-#[derive(Clone, Copy)]
+#[derive(Clone, Copy, Debug, Default, PartialEq, Eq)]
 pub struct Masks {
     pub doubles: u16,
     pub index: u16,
     pub broken: u16,
-}
-
-// What a port sample answers.
-#[derive(Clone, Copy)]
-pub enum Sampled {
-    Seen(Masks),
-    Refused(Refusal),
-}
-
-// The four bits of a port word that axis k owns.
-fn nibble(port: u64, k: usize) -> u64
-    requires { k < most_axes }
-    ensures { result ≡ nibble port k }
-{
-    (port >> (k * 4)) & 15
 }
 
 // A mask that lies below bit k, with that bit put to it.
@@ -52,38 +37,29 @@ fn note(masks: Masks, k: usize, stepped: SteppedRow) -> Masks
     }
 }
 
-// Row k after its own four bits, written back.
+// Row k after its own four bits of the port word, written back.
+#[tactic(auto, using(crate::proofs::RoomLaws::port_room), unfolding(crate::specs::Port::nibble))]
 fn sample_row(table: &mut [u64], k: usize, port: u64) -> SteppedRow
     requires { (k < most_axes) × (k * 4 + 4 ≤ length table.old) }
     ensures { SamplesRow table.old k port table.new result }
 {
-    let stepped = step_row(read_row(table, k), nibble(port, k));
-    let row = stepped.row;
-    write_row(table, k, row);
+    let nibble = (port >> (k * 4)) & 15;
+    let stepped = step_row(read_row(table, k), nibble);
+    write_row(table, k, stepped.row);
     stepped
 }
 
 // One sample of every axis's lines: sampled rows step, and no row stops another.
-pub fn sample(table: &mut [u64], port: u64) -> Sampled
+pub fn sample(table: &mut [u64], port: u64) -> Result<Masks, Refusal>
     ensures { Samples table.old port table.new result }
 {
-    let n = axes_in(table.len());
-    if n == 0 {
-        return Sampled::Refused(Refusal::Length);
-    }
-    let mut masks = Masks {
-        doubles: 0,
-        index: 0,
-        broken: 0,
-    };
-    let mut k = 0;
-    while k < n {
-        let stepped = sample_row(table, k, port);
-        masks = note(masks, k, stepped);
-        k += 1;
+    let n = axes_in(table.len())?;
+    let mut masks = Masks::default();
+    for k in 0..n {
+        masks = note(masks, k, sample_row(table, k, port));
     }
     // One by one: copied whole, they would go through the loop in halves.
-    Sampled::Seen(Masks {
+    Ok(Masks {
         doubles: masks.doubles,
         index: masks.index,
         broken: masks.broken,

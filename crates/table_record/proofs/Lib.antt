@@ -1,4 +1,5 @@
 pub mod AnyRowLaws
+pub mod RowsLaws
 pub mod SizeLaws
 pub mod SavingLaws
 pub mod RestoringLaws

@@ -1,4 +1,5 @@
 -- The laws of a whole-table save: what it answers and leaves, by its checks.
+use Rattle.std.specs.Prelude.{Ok, Err}
 use mathlib.Core.Path.{◌≡◌, ap, ◌∙◌}
 use mathlib.Core.Logic.{◌≢◌}
 use mathlib.Core.Bool.{Bool, true, false, cond}
@@ -13,7 +14,6 @@ use Rattle.refusal.specs.declared.Refusal.TheVariants.{Length, Broken, Room}
 use Rattle.axis.specs.Limit.{most_axes}
 use Rattle.tagged.specs.Store.{Puts}
 use Rattle.record.specs.Answer.{written_bytes}
-use Rattle.record.specs.declared.answer.Written.TheVariants.{Bytes, Refused}
 use Rattle.record_table.specs.TableRecord.{entries_bytes}
 use Rattle.record_table.proofs.WriterLaws.{table_long, table_short}
 use Rattle.table_rows.specs.Table.{axes_in}
@@ -23,19 +23,19 @@ use Rattle.table_record.specs.Saving.{entries_in, record_in, any_broken, table_s
 
 module _ (t b : List ℕ) where
   -- Of a slice that holds no axis.
-  pub save_none : axes_in (length t) ≡ 0 → TableSaves t b b (Refused Length)
+  pub save_none : axes_in (length t) ≡ 0 → TableSaves t b b (Err Length)
   unfolding table_save_in
   save_none e = let n = eq-eqb (axes_in (length t)) 0 e in record { answer = rw n; buffer = rw n }
 
   module _ (some : axes_in (length t) ≢ 0) where
     -- With a broken row.
-    pub save_broken : any_broken (axes_in (length t)) t ≡ true → TableSaves t b b (Refused Broken)
+    pub save_broken : any_broken (axes_in (length t)) t ≡ true → TableSaves t b b (Err Broken)
     unfolding table_save_in
     save_broken e = let n = ne_eqb (axes_in (length t)) 0 some in record { answer = rw (n, e); buffer = rw (n, e) }
 
     module _ (sound : any_broken (axes_in (length t)) t ≡ false) where
       -- Without room.
-      pub save_short : length b < 12 + length (entries_bytes (entries_in t)) → TableSaves t b b (Refused Room)
+      pub save_short : length b < 12 + length (entries_bytes (entries_in t)) → TableSaves t b b (Err Room)
       unfolding table_save_in
       save_short h =
           let n = ne_eqb (axes_in (length t)) 0 some in
@@ -44,13 +44,13 @@ module _ (t b : List ℕ) where
 
       -- With room.
       pub save_wrote : {n : ℕ} {d : List ℕ} → 12 + length (entries_bytes (entries_in t)) ≤ length b → Puts (record_in t) b 0 d n →
-          TableSaves t b d (Bytes n)
+          TableSaves t b d (Ok n)
       unfolding table_save_in
       save_wrote h p =
           let n = ne_eqb (axes_in (length t)) 0 some in
           let l = le-leb (length (record_in t)) (length b) (rw (table_long (entries_in t)) h) in
           record {
-            answer = rw (n, sound, l) (ap Bytes (p.behind ∙ zero-add (length (record_in t))));
+            answer = rw (n, sound, l) (ap Ok (p.behind ∙ zero-add (length (record_in t))));
             buffer = rw (n, sound, l)
                 p.buffer;
           }
@@ -68,7 +68,7 @@ unfolding table_save_in
 save_short_answer room t = go (eqb (axes_in (length t)) 0) (any_broken (axes_in (length t)) t) (leb (length (record_in t)) room)
   where
     go : (a b c : Bool) →
-        written_bytes (cond a (Refused Length) (cond b (Refused Broken) (cond c (Bytes (length (record_in t))) (Refused Room))))
+        written_bytes (cond a (Err Length) (cond b (Err Broken) (cond c (Ok (length (record_in t))) (Err Room))))
         ≤ 12 + most_axes * 30
     go true b c = omega arith
     go false true c = omega arith

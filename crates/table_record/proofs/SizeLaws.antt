@@ -1,4 +1,5 @@
 -- The laws of a table's entries, row by row: how many they are, and how long.
+use Rattle.std.specs.Prelude.{Result, Option, Ok, Err, Some, None}
 use mathlib.Core.Path.{◌≡◌, refl, sym, ap, ◌∙◌}
 use mathlib.Core.Bool.{Bool, false, ◌||◌, or-true, or-false}
 use mathlib.Core.List.{List, [], ◌∷◌, ◌++◌, append-nil}
@@ -28,8 +29,8 @@ use Rattle.table_rows.specs.Table.{row_at}
 use Rattle.table_record.specs.AnyRow.{any_row}
 use Rattle.table_record.specs.Saving.{said_by, row_says, entry_of_row, entries_to, any_broken, size_with, size_to}
 use Rattle.table_record.specs.declared.measure.Size.{Size}
-use Rattle.table_record.specs.declared.row.RowSays.{RowSays}
-use Rattle.table_record.specs.declared.row.RowSays.TheVariants.{Nothing, Axis, Broken as Unsound}
+use Rattle.record_axis.specs.declared.saved.Saved.{Saved}
+use Rattle.refusal.specs.declared.Refusal.{Refusal}
 
 -- A size by its three parts.
 size_is : {c b d e : ℕ} {x y : Bool} → c ≡ d → b ≡ e → x ≡ y →
@@ -43,13 +44,13 @@ one_long e = rw append-nil (entry_long e)
 
 module _ (k : ℕ) (t : List ℕ) where
   -- the size with a row more, by what the row adds
-  grows : (es : List Entry) (bad : Bool) (x : RowSays) (worse : Bool) →
+  grows : (es : List Entry) (bad : Bool) (x : Result (Option Saved) Refusal) (worse : Bool) →
       (size_with (record { count = length es; bytes = length (entries_bytes es); broken = bad }) x).broken ≡ worse →
       size_with (record { count = length es; bytes = length (entries_bytes es); broken = bad }) x
       ≡ record { count = length (es ++ entry_of_row k x); bytes = length (entries_bytes (es ++ entry_of_row k x)); broken = worse }
   unfolding entries_bytes
-  grows es bad Nothing worse e = rw append-nil (size_is refl refl e)
-  grows es bad (Axis s) worse e =
+  grows es bad (Ok None) worse e = rw append-nil (size_is refl refl e)
+  grows es bad (Ok (Some s)) worse e =
       let entry : Entry = record { axis = k; saved = s } in
       size_is
       (omega (arith, length-append es (entry ∷ [])))
@@ -61,14 +62,14 @@ module _ (k : ℕ) (t : List ℕ) where
         one_long entry,
       ))
       e
-  grows es bad Unsound worse e = rw append-nil (size_is refl refl e)
+  grows es bad (Err r) worse e = rw append-nil (size_is refl refl e)
 
   -- A size with the next row is that of one row more.
   pub size_next : size_with (size_to k t) (row_says (row_at t k)) ≡ size_to (k + 1) t
   unfolding size_to entries_to any_row row_says
   size_next = rw add-one (go (status_of (row_at t k)))
     where
-      x : Status → RowSays
+      x : Status → Result (Option Saved) Refusal
       x s = said_by (saved_of (axis_of (row_at t k))) s
 
       go : (s : Status) →
@@ -84,15 +85,15 @@ module _ (k : ℕ) (t : List ℕ) where
       go Broken = grows (entries_to k t) (any_broken k t) (x Broken) _ (sym (or-true (any_broken k t)))
 
 -- No rows are of no size.
-pub size_none : (t : List ℕ) → ◌≡◌ {A = Size} (record { count = 0; bytes = 0; broken = false }) (size_to 0 t)
+pub size_none : (z : Size) (t : List ℕ) → z.count ≡ 0 → z.bytes ≡ 0 → z.broken ≡ false → z ≡ size_to 0 t
 unfolding size_to entries_to any_row entries_bytes
-size_none t = refl
+size_none z t p q r = size_is p q r
 
 -- A row has at most one entry.
-one_entry : (k : ℕ) (x : RowSays) → length (entry_of_row k x) ≤ 1
-one_entry k Nothing = omega arith
-one_entry k (Axis s) = omega arith
-one_entry k Unsound = omega arith
+one_entry : (k : ℕ) (x : Result (Option Saved) Refusal) → length (entry_of_row k x) ≤ 1
+one_entry k (Ok None) = omega arith
+one_entry k (Ok (Some s)) = omega arith
+one_entry k (Err r) = omega arith
 
 -- So a table has no more entries than rows.
 pub entries_few : (n : ℕ) (t : List ℕ) → length (entries_to n t) ≤ n
@@ -145,3 +146,23 @@ pub puts_row : (k : ℕ) (t : List ℕ) {b m d : List ℕ} {at j r : ℕ} → Pu
     Puts (entries_bytes (entry_of_row k (row_says (row_at t k)))) m j d r → Puts (entries_bytes (entries_to (k + 1) t)) b at d r
 unfolding entries_to
 puts_row k t p q = rw (add-one, entries_append (entries_to k t) (entry_of_row k (row_says (row_at t k)))) (puts_then p q)
+
+module _ (k : ℕ) (t : List ℕ) {x : Result (Option Saved) Refusal} (says : x ≡ row_says (row_at t k)) where
+  -- The bytes of an entry that a row adds lie in those of one row more.
+  pub one_next : {s : Saved} → x ≡ Ok (Some s) →
+      length (entries_bytes (entries_to (k + 1) t)) ≡ length (entries_bytes (entries_to k t)) + (4 + axis_length s.config.kind)
+  one_next {s} e =
+      bytes_next k t
+      ∙ ap (λ (y : Result (Option Saved) Refusal). length (entries_bytes (entries_to k t)) + length (entries_bytes (entry_of_row k y))) (sym says ∙ e)
+      ∙ ap (λ (n : ℕ). length (entries_bytes (entries_to k t)) + n) (one_long (record { axis = k; saved = s }))
+
+  -- One row more that adds an entry, which is put behind the others.
+  pub puts_next : {s : Saved} {b m d : List ℕ} {at j r : ℕ} → x ≡ Ok (Some s) → Puts (entries_bytes (entries_to k t)) b at m j →
+      Puts (entry_bytes (record { axis = k; saved = s })) m j d r → Puts (entries_bytes (entries_to (k + 1) t)) b at d r
+  puts_next {s} e p q = puts_row k t p (rw (← says, e) (puts_one (record { axis = k; saved = s }) q))
+
+  -- One row more that adds none.
+  pub puts_same : {b m : List ℕ} {at j : ℕ} → entry_of_row k x ≡ [] → Puts (entries_bytes (entries_to k t)) b at m j →
+      Puts (entries_bytes (entries_to (k + 1) t)) b at m j
+  unfolding entries_bytes
+  puts_same {m = m} {j = j} e p = puts_row k t p (rw (← says, e) (puts_none m j))

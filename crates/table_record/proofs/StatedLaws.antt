@@ -1,4 +1,5 @@
 -- What docs/RULES.md states, computed to its end: "The record of a whole table", the two calls.
+use Rattle.std.specs.Prelude.{Ok, Err}
 use mathlib.Core.Path.{◌≡◌, refl}
 use mathlib.Core.Bool.{true, false}
 use mathlib.Core.List.{List, [], ◌∷◌, map}
@@ -13,10 +14,9 @@ use Rattle.tagged.specs.Bytes.{number_from, bytes_of, starts}
 use Rattle.tagged.specs.Field.{field_at, field_bytes}
 use Rattle.record_axis.specs.AxisFields.{front_bytes, setting_bytes, axis_bytes}
 use Rattle.record.specs.Record.{layout_refusal}
-use Rattle.record.specs.declared.answer.Written.TheVariants.{Bytes, Refused as Unwritten}
 use Rattle.record_entry.specs.Entry.{counter_from, sampled_from, saved_at, entry_from, entry_bytes}
 use Rattle.record_entry.specs.declared.entry.Entry.{Entry}
-use Rattle.record_table.specs.TableRecord.{says, unsaid, closes_at, entries_at, table_read_as, entries_bytes, table_front, table_record_of}
+use Rattle.record_table.specs.TableRecord.{closes_at, entries_at, table_read_as, entries_bytes, table_front, table_record_of}
 use Rattle.table_rows.specs.Table.{axes_in, row_at, set_row}
 use Rattle.table_record.specs.AnyRow.{any_row}
 use Rattle.table_record.specs.Saving.{row_says, entries_to, size_to, table_save_in}
@@ -60,7 +60,7 @@ pub save_stated :
     ∷ table_save_in 0 (bad (0 ∷ []))
     ∷ table_save_in 12 (none [])
     ∷ []
-    ≡ Bytes 65 ∷ Unwritten Room ∷ Unwritten Broken ∷ Unwritten Length ∷ Bytes 12 ∷ []
+    ≡ Ok 65 ∷ Err Room ∷ Err Broken ∷ Err Length ∷ Ok 12 ∷ []
 unfolding most_axes axes_in status_of position_of row_at row_says entries_to any_row table_save_in bytes_of field_bytes front_bytes setting_bytes axis_bytes
     entry_bytes entries_bytes table_front table_record_of
 save_stated = refl
@@ -84,12 +84,12 @@ pub restore_stated :
     ∷ table_ruling one (none (none []))
     ∷ table_ruling zero_axes (none [])
     ∷ []
-    ≡ unsaid Length ∷ unsaid (Layout 1) ∷ unsaid Axis ∷ unsaid Occupied ∷ unsaid Occupied ∷ says (narrow_entry 1 ∷ []) ∷ says [] ∷ []
+    ≡ Err Length ∷ Err (Layout 1) ∷ Err Axis ∷ Err Occupied ∷ Err Occupied ∷ Ok (narrow_entry 1 ∷ []) ∷ Ok [] ∷ []
 unfolding most_axes axes_in row_at number_from starts field_at good_config in_range layout_refusal counter_from sampled_from saved_at entry_from closes_at
     entries_at table_read_as any_row all_below table_ruling
 restore_stated = refl
 
 -- Every word of the table that is left.
-pub restore_left : table_left (none (none (none []))) (says (x4_entry 0 ∷ narrow_entry 2 ∷ [])) ≡ x4 (none (narrow []))
+pub restore_left : table_left (none (none (none []))) (Ok (x4_entry 0 ∷ narrow_entry 2 ∷ [])) ≡ x4 (none (narrow []))
 unfolding set_row filled word_of
 restore_left = refl

@@ -1,3 +1,4 @@
 pub mod AnyRow
+pub mod Rows
 pub mod Saving
 pub mod Restoring

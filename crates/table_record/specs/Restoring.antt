@@ -1,15 +1,14 @@
 -- The whole-table restore: docs/RULES.md, "The record of a whole table".
-use Rattle.std.specs.Prelude.{ℕ, ◌≡◌, Bool, true, not, cond, ◌&&◌, List, [], ◌∷◌, eqb, ltb, length}
+use Rattle.std.specs.Prelude.{ℕ, ◌≡◌, Bool, true, not, cond, ◌&&◌, List, [], ◌∷◌, eqb, ltb, length, Result, Ok, Err, ⊤}
 use Rattle.refusal.specs.declared.Refusal.TheVariants.{Length, Axis, Occupied}
 use Rattle.axis.specs.declared.row.Row.{Row}
 use Rattle.axis_sound.specs.Sound.{is_empty}
 use Rattle.record_entry.specs.declared.entry.Entry.{Entry}
-use Rattle.record_table.specs.TableRecord.{TableRead, says, unsaid, entries_at, table_read_as}
+use Rattle.record_table.specs.TableRecord.{entries_at, table_read_as}
 use Rattle.row_saving.specs.Saving.{said_row}
-use Rattle.row_calls.specs.declared.answer.Done.{Done}
-use Rattle.row_calls.specs.declared.answer.Done.TheVariants.{Yes, Refused}
 use Rattle.table_rows.specs.Table.{axes_in, set_row}
 use Rattle.table_record.specs.AnyRow.{any_row}
+use Rattle.refusal.specs.declared.Refusal.{Refusal}
 
 -- Whether every axis has a number below n.
 unfoldable pub all_below : ℕ → List Entry → Bool
@@ -30,38 +29,38 @@ filled t [] = t
 filled t (e ∷ es) = filled (set_row t e.axis (said_row e.saved)) es
 
 -- What a record that is read comes to on n rows: AXIS, then OCCUPIED, or the axes that it puts there.
-abbrev pub ruling_on : ℕ → List ℕ → TableRead → TableRead
-ruling_on n t (says es) = cond (all_below n es) (cond (all_empty n t) (says es) (unsaid Occupied)) (unsaid Axis)
-ruling_on n t (unsaid e) = unsaid e
+abbrev pub ruling_on : ℕ → List ℕ → Result (List Entry) Refusal → Result (List Entry) Refusal
+ruling_on n t (Ok es) = cond (all_below n es) (cond (all_empty n t) (Ok es) (Err Occupied)) (Err Axis)
+ruling_on n t (Err e) = Err e
 
 -- What a whole-table restore comes to: LENGTH, then the record's own refusal, then AXIS and OCCUPIED.
-unfoldable pub table_ruling : List ℕ → List ℕ → TableRead
-table_ruling s t = cond (eqb (axes_in (length t)) 0) (unsaid Length) (ruling_on (axes_in (length t)) t (table_read_as s))
+unfoldable pub table_ruling : List ℕ → List ℕ → Result (List Entry) Refusal
+table_ruling s t = cond (eqb (axes_in (length t)) 0) (Err Length) (ruling_on (axes_in (length t)) t (table_read_as s))
 
 -- What it answers.
-abbrev pub table_done : TableRead → Done
-table_done (says es) = Yes
-table_done (unsaid e) = Refused e
+abbrev pub table_done : Result (List Entry) Refusal → Result ⊤ Refusal
+table_done (Ok es) = Ok tt
+table_done (Err e) = Err e
 
 -- The table that it leaves: the axes put in their places, or on a refusal every word as it was.
-abbrev pub table_left : List ℕ → TableRead → List ℕ
-table_left t (says es) = filled t es
-table_left t (unsaid e) = t
+abbrev pub table_left : List ℕ → Result (List Entry) Refusal → List ℕ
+table_left t (Ok es) = filled t es
+table_left t (Err e) = t
 
 -- What a whole-table restore promises: t before, u after, and the answer.
-pub record TableRestores (s t u : List ℕ) (a : Done) : Type 0 where
+pub record TableRestores (s t u : List ℕ) (a : Result ⊤ Refusal) : Type 0 where
   pub answer : a ≡ table_done (table_ruling s t)
   pub table : u ≡ table_left t (table_ruling s t)
 
 -- ---- the second reading
 
 -- The axes of a reading, none on a refusal.
-abbrev pub entries_said : TableRead → List Entry
-entries_said (says es) = es
-entries_said (unsaid e) = []
+abbrev pub entries_said : Result (List Entry) Refusal → List Entry
+entries_said (Ok es) = es
+entries_said (Err e) = []
 
 -- Entries from a record's tenth byte on that were accepted, and whose rows are all there.
 pub record Fillable (count : ℕ) (s t : List ℕ) : Type 0 where
   pub entries : List Entry
-  pub read : entries_at count s 9 0 ≡ says entries
+  pub read : entries_at count s 9 0 ≡ Ok entries
   pub rows : all_below (axes_in (length t)) entries ≡ true

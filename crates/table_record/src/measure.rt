@@ -4,12 +4,14 @@ ghost use Rattle.axis.specs.Limit.{most_axes};
 ghost use Rattle.table_rows.specs.Table.{axes_in};
 ghost use Rattle.table_record.specs.Saving.{size_with, size_to};
 
-use crate::row::{RowSays, said_by};
+use crate::row::said_by;
+use crate::rows::Rows;
+use record_axis::saved::Saved;
 use record_writer::axis_length;
-use table_rows::read_row;
+use refusal::Refusal;
 
 // How many rows are saved, how many bytes their entries are, and whether a row is broken.
-#[derive(Clone, Copy)]
+#[derive(Clone, Copy, Default)]
 pub struct Size {
     pub count: usize,
     pub bytes: usize,
@@ -17,42 +19,32 @@ pub struct Size {
 }
 
 // A size with one row more.
-fn with_row(size: Size, said: RowSays) -> Size
+#[tactic(auto, unfolding(axis::specs::Limit::most_axes))]
+fn with_row(size: Size, said: Result<Option<Saved>, Refusal>) -> Size
     requires { (size.count ≤ most_axes) × (size.bytes ≤ most_axes * 30) }
     ensures { result ≡ size_with size said }
 {
-    let count = size.count;
-    let bytes = size.bytes;
-    let broken = size.broken;
     match said {
-        RowSays::Nothing => size,
-        RowSays::Broken => Size {
-            count,
-            bytes,
-            broken: true,
+        Ok(None) => size,
+        Ok(Some(saved)) => Size {
+            count: size.count + 1,
+            bytes: size.bytes + 4 + axis_length(u64::from(saved.config.kind)),
+            ..size
         },
-        RowSays::Axis(saved) => Size {
-            count: count + 1,
-            bytes: bytes + 4 + axis_length(saved.config.kind as u64),
-            broken,
+        Err(_) => Size {
+            broken: true,
+            ..size
         },
     }
 }
 
-// The size of the first n rows: every row is looked at before any byte is written.
-pub fn measure(table: &[u64], n: usize) -> Size
-    requires { n ≡ axes_in (length table.now) }
-    ensures { result ≡ size_to n table.now }
+// The size of a table's rows: every row is looked at before any byte is written.
+pub fn measure(rows: &Rows) -> Size
+    ensures { result ≡ size_to (axes_in (length rows.now)) rows.now }
 {
-    let mut size = Size {
-        count: 0,
-        bytes: 0,
-        broken: false,
-    };
-    let mut k = 0;
-    while k < n {
-        size = with_row(size, said_by(read_row(table, k)));
-        k += 1;
+    let mut size = Size::default();
+    for k in 0..rows.count() {
+        size = with_row(size, said_by(rows.row(k)));
     }
     size
 }

@@ -4,27 +4,19 @@ ghost use Rattle.table_rows.specs.Table.{axes_in};
 ghost use Rattle.table_record.specs.Restoring.{all_empty, entries_said, Fillable, filled, TableRestores};
 ghost use Rattle.record_table.specs.TableRecord.{entries_at};
 
+use crate::rows::Rows;
 use axis_sound::is_empty;
-use record_entry::reader::{EntryRead, read_entry};
-use record_table::reader::{Survey, read_table};
+use record_entry::reader::read_entry;
+use record_table::reader::read_table;
 use refusal::Refusal;
-use row_calls::answer::Done;
 use row_saving::said_row;
-use table_rows::{axes_in, read_row, write_row};
+use table_rows::write_row;
 
-// Whether every one of the first n rows is empty.
-fn all_empty(table: &[u64], n: usize) -> bool
-    requires { n ≡ axes_in (length table.now) }
-    ensures { result ≡ all_empty n table.now }
+// Whether every one of a table's rows is empty.
+fn all_empty(rows: &Rows) -> bool
+    ensures { result ≡ all_empty (axes_in (length rows.now)) rows.now }
 {
-    let mut k = 0;
-    while k < n {
-        if !is_empty(read_row(table, k)) {
-            return false;
-        }
-        k += 1;
-    }
-    true
+    (0..rows.count()).all(|k| is_empty(rows.row(k)))
 }
 
 // The rows that the entries of a record say, from its tenth byte on; the record has been judged before.
@@ -34,38 +26,26 @@ fn fill(table: &mut [u64], slice: &[u8], count: usize)
 {
     let mut at = 9;
     let mut least: u64 = 0;
-    let mut i = 0;
-    while i < count {
-        let EntryRead::Said(entry, next) = read_entry(slice, at, least) else {
-            return;
-        };
-        let row = said_row(entry.saved);
-        write_row(table, entry.axis as usize, row);
-        least = entry.axis as u64 + 1;
+    for _ in 0..count {
+        let (entry, next) = read_entry(slice, at, least).unwrap();
+        write_row(table, usize::from(entry.axis), said_row(entry.saved));
+        least = u64::from(entry.axis) + 1;
         at = next;
-        i += 1;
     }
 }
 
 // Every axis that a record says, in a table of empty rows: LENGTH, then the record's own checks in its own order, AXIS, OCCUPIED.
-pub fn restore_table(table: &mut [u64], slice: &[u8]) -> Done
+pub fn restore_table(table: &mut [u64], slice: &[u8]) -> Result<(), Refusal>
     ensures { TableRestores slice.now table.old table.new result }
 {
-    let n = axes_in(table.len());
-    if n == 0 {
-        return Done::Refused(Refusal::Length);
+    let rows = Rows::try_from(&*table)?;
+    let (count, bound) = read_table(slice)?;
+    if bound > rows.count() as u64 {
+        return Err(Refusal::Axis);
     }
-    match read_table(slice) {
-        Survey::Refused(e) => Done::Refused(e),
-        Survey::Accepted(count, bound) => {
-            if bound > n as u64 {
-                return Done::Refused(Refusal::Axis);
-            }
-            if !all_empty(table, n) {
-                return Done::Refused(Refusal::Occupied);
-            }
-            fill(table, slice, count);
-            Done::Yes
-        }
+    if !all_empty(&rows) {
+        return Err(Refusal::Occupied);
     }
+    fill(table, slice, count);
+    Ok(())
 }

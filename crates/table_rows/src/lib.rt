@@ -2,28 +2,21 @@
 #![tactic(auto)]
 
 ghost use Rattle.std.specs.Prelude.{◌≡◌, ◌+◌, ◌*◌, ◌≤◌, length};
-ghost use Rattle.table_rows.specs.Table.{axes_in, row_at, set_row};
-ghost use Rattle.table_rows.specs.Located.{located};
+ghost use Rattle.table_rows.specs.Table.{row_at, set_row};
+ghost use Rattle.table_rows.specs.Located.{axes_or_length, located};
 
 use axis::limit::AXES;
 use axis::row::Row;
 use refusal::Refusal;
 
-// The named row, or the reason that there is none: LENGTH or AXIS.
-#[derive(Clone, Copy)]
-pub enum Located {
-    At(Row),
-    Refused(Refusal),
-}
-
-// How many axes a slice of so many words holds, and 0 where the length is wrong.
-pub fn axes_in(len: usize) -> usize
-    ensures { result ≡ axes_in len }
+// How many axes a slice of so many words holds: LENGTH.
+pub fn axes_in(len: usize) -> Result<usize, Refusal>
+    ensures { result ≡ axes_or_length len }
 {
-    if (len % 4 == 0) & (len / 4 <= AXES) {
-        return len / 4;
+    if (len % 4 == 0) & (0 < len / 4) & (len / 4 <= AXES) {
+        return Ok(len / 4);
     }
-    0
+    Err(Refusal::Length)
 }
 
 // Row k.
@@ -53,15 +46,12 @@ pub fn write_row(table: &mut [u64], k: usize, row: Row)
 }
 
 // The named row: the number is compared with the axes there are before it picks a word.
-pub fn locate(table: &[u64], axis: u64) -> Located
+pub fn locate(table: &[u64], axis: u64) -> Result<Row, Refusal>
     ensures { result ≡ located table.now axis }
 {
-    let n = axes_in(table.len());
-    if n == 0 {
-        return Located::Refused(Refusal::Length);
-    }
+    let n = axes_in(table.len())?;
     if axis < n as u64 {
-        return Located::At(read_row(table, axis as usize));
+        return Ok(read_row(table, axis as usize));
     }
-    Located::Refused(Refusal::Axis)
+    Err(Refusal::Axis)
 }

@@ -1,4 +1,5 @@
 -- The laws of the answers of a whole-table save and restore: each exactly when its line says.
+use Rattle.std.specs.Prelude.{Result, Ok, Err, ⊤}
 use mathlib.Core.Path.{◌≡◌, refl, sym, ◌∙◌}
 use mathlib.Core.Logic.{◌≢◌, ◌↔◌}
 use mathlib.Core.Bool.{true, false, ◌&&◌, true≢false}
@@ -17,14 +18,10 @@ use Rattle.axis_sound.specs.declared.Status.{Status}
 use Rattle.axis_sound.specs.declared.Status.TheVariants.{Empty, Sampled, Counter, Broken}
 use Rattle.axis_sound.proofs.SoundLaws.{status_exactly}
 use Rattle.axis_open.specs.Open.{broken_by}
-use Rattle.record.specs.declared.answer.Written.{Written}
-use Rattle.record.specs.declared.answer.Written.TheVariants.{Bytes, Refused as Unwritten}
 use Rattle.record_entry.specs.declared.entry.Entry.{Entry}
-use Rattle.record_table.specs.TableRecord.{TableRead, says, unsaid, table_read_as}
+use Rattle.record_table.specs.TableRecord.{table_read_as}
 use Rattle.record_table.specs.Order.{TableJudged}
 use Rattle.record_table.proofs.OrderLaws.{table_exactly}
-use Rattle.row_calls.specs.declared.answer.Done.{Done}
-use Rattle.row_calls.specs.declared.answer.Done.TheVariants.{Refused}
 use Rattle.row_calls.proofs.SetupLaws.{not_zero}
 use Rattle.table_rows.specs.Table.{axes_in, row_at}
 use Rattle.table_record.specs.Saving.{record_in, any_broken, table_save_in, TableSaves}
@@ -75,7 +72,7 @@ module _ (t : List ℕ) (room : ℕ) where
   none_broken : ((k : ℕ) → k < n → status_of (row_at t k) ≢ Broken) → any_broken n t ≡ false
   none_broken f = (none_passes _ n t).1 (λ k h. refuted (broken_by (status_of (row_at t k))) (λ e. f k h ((broken_is (row_at t k)).0 e)))
 
-  pub save_exactly : (a : Written) → (a ≡ table_save_in room t) ↔ SaveAnswers t room a
+  pub save_exactly : (a : Result ℕ Refusal) → (a ≡ table_save_in room t) ↔ SaveAnswers t room a
   unfolding table_save_in
   save_exactly a = (λ e. rw e (to (test (eqb n 0)) (test (any_broken n t)) (test (leb (length (record_in t)) room))), from)
     where
@@ -88,19 +85,19 @@ module _ (t : List ℕ) (room : ℕ) where
       to (no z) (no b) (yes l) =
           rw (z, b, l) (saved (eqb-false n 0 z) (λ k h e. true≢false (sym (broken_at k h e) ∙ b)) (leb-true (length (record_in t)) room l))
 
-      from : {c : Written} → SaveAnswers t room c → c ≡ table_save_in room t
+      from : {c : Result ℕ Refusal} → SaveAnswers t room c → c ≡ table_save_in room t
       from (no_table z) = rw (eq-eqb n 0 z)
       from (broken_row k h e) = let z : n ≢ 0 = omega arith in rw (ne_eqb n 0 z, broken_at k h e)
       from (no_room z b l) = rw (ne_eqb n 0 z, none_broken b, lt-leb (length (record_in t)) room l)
       from (saved z b l) = rw (ne_eqb n 0 z, none_broken b, le-leb (length (record_in t)) room l)
 
 -- A refused save keeps every byte.
-pub unsaved_whole : (t b : List ℕ) {d : List ℕ} (e : Refusal) → TableSaves t b d (Unwritten e) → d ≡ b
+pub unsaved_whole : (t b : List ℕ) {d : List ℕ} (e : Refusal) → TableSaves t b d (Err e) → d ≡ b
 unsaved_whole t b {d} e w = go (table_save_in (length b) t) refl
   where
-    go : (a : Written) → table_save_in (length b) t ≡ a → d ≡ b
-    go (Bytes m) q = absurd (let z : ◌≡◌ {A = ℕ} 0 1 = cc w.answer in omega arith)
-    go (Unwritten x) q = w.buffer ∙ rw q
+    go : (a : Result ℕ Refusal) → table_save_in (length b) t ≡ a → d ≡ b
+    go (Ok m) q = absurd (let z : ◌≡◌ {A = ℕ} 0 1 = cc w.answer in omega arith)
+    go (Err x) q = w.buffer ∙ rw q
 
 -- ---- the restore
 
@@ -116,42 +113,42 @@ module _ (s t : List ℕ) where
   unfolding passes
   all_empty_lem f = empty_all m t (λ k h. (status_exactly Empty (row_at t k)).0 (f k h))
 
-  pub restore_exactly : (a : Done) → (a ≡ table_done (table_ruling s t)) ↔ RestoreAnswers s t a
+  pub restore_exactly : (a : Result ⊤ Refusal) → (a ≡ table_done (table_ruling s t)) ↔ RestoreAnswers s t a
   unfolding table_ruling passes
   restore_exactly a = (λ e. rw e (to (test (eqb m 0)) (table_read_as s) refl), from)
     where
-      judged : (r : TableRead) → table_read_as s ≡ r → TableJudged s r
+      judged : (r : Result (List Entry) Refusal) → table_read_as s ≡ r → TableJudged s r
       judged r h = (table_exactly s r).0 h
 
-      by : (es : List Entry) → m ≢ 0 → table_read_as s ≡ says es → Decided (all_below m es) → Decided (all_empty m t) →
-          RestoreAnswers s t (table_done (ruling_on m t (says es)))
-      by es z h (no b) v = rw b (no_axis es z (judged (says es) h) (λ e. true≢false (sym ((below_each m es).1 e) ∙ b)))
+      by : (es : List Entry) → m ≢ 0 → table_read_as s ≡ Ok es → Decided (all_below m es) → Decided (all_empty m t) →
+          RestoreAnswers s t (table_done (ruling_on m t (Ok es)))
+      by es z h (no b) v = rw b (no_axis es z (judged (Ok es) h) (λ e. true≢false (sym ((below_each m es).1 e) ∙ b)))
       by es z h (yes b) (yes v) =
-          rw (b, v) (restored es z (judged (says es) h) ((below_each m es).0 b)
+          rw (b, v) (restored es z (judged (Ok es) h) ((below_each m es).0 b)
           (λ k l. (status_exactly Empty (row_at t k)).1 (empty_each m k t v l)))
       by es z h (yes b) (no v) =
           let p = full_found m t v in
-          rw (b, v) (full_row es p.0 (judged (says es) h) ((below_each m es).0 b) p.1
+          rw (b, v) (full_row es p.0 (judged (Ok es) h) ((below_each m es).0 b) p.1
           (λ e. true≢false (sym ((status_exactly Empty (row_at t p.0)).0 e) ∙ p.2)))
 
-      to : Decided (eqb m 0) → (r : TableRead) → table_read_as s ≡ r → RestoreAnswers s t (table_done (table_ruling s t))
+      to : Decided (eqb m 0) → (r : Result (List Entry) Refusal) → table_read_as s ≡ r → RestoreAnswers s t (table_done (table_ruling s t))
       to (yes z) r h = rw z (no_rows (eqb-true m 0 z))
-      to (no z) (unsaid e) h = rw (z, h) (no_record e (eqb-false m 0 z) (judged (unsaid e) h))
-      to (no z) (says es) h = rw (z, h) (by es (eqb-false m 0 z) h (test (all_below m es)) (test (all_empty m t)))
+      to (no z) (Err e) h = rw (z, h) (no_record e (eqb-false m 0 z) (judged (Err e) h))
+      to (no z) (Ok es) h = rw (z, h) (by es (eqb-false m 0 z) h (test (all_below m es)) (test (all_empty m t)))
 
-      from : {c : Done} → RestoreAnswers s t c → c ≡ table_done (table_ruling s t)
+      from : {c : Result ⊤ Refusal} → RestoreAnswers s t c → c ≡ table_done (table_ruling s t)
       from (no_rows z) = rw (eq-eqb m 0 z)
-      from (no_record e z j) = rw (ne_eqb m 0 z, (table_exactly s (unsaid e)).1 j)
+      from (no_record e z j) = rw (ne_eqb m 0 z, (table_exactly s (Err e)).1 j)
       from (no_axis es z j b) =
-          rw (ne_eqb m 0 z, (table_exactly s (says es)).1 j, refuted (all_below m es) (λ e. b ((below_each m es).0 e)))
+          rw (ne_eqb m 0 z, (table_exactly s (Ok es)).1 j, refuted (all_below m es) (λ e. b ((below_each m es).0 e)))
       from (full_row es k j b h e) = let z : m ≢ 0 = omega arith in
-          rw (ne_eqb m 0 z, (table_exactly s (says es)).1 j, (below_each m es).1 b, full_at k h e)
-      from (restored es z j b v) = rw (ne_eqb m 0 z, (table_exactly s (says es)).1 j, (below_each m es).1 b, all_empty_lem v)
+          rw (ne_eqb m 0 z, (table_exactly s (Ok es)).1 j, (below_each m es).1 b, full_at k h e)
+      from (restored es z j b v) = rw (ne_eqb m 0 z, (table_exactly s (Ok es)).1 j, (below_each m es).1 b, all_empty_lem v)
 
 -- A refused restore keeps every word.
-pub unrestored_whole : (s t : List ℕ) {u : List ℕ} (e : Refusal) → TableRestores s t u (Refused e) → u ≡ t
+pub unrestored_whole : (s t : List ℕ) {u : List ℕ} (e : Refusal) → TableRestores s t u (Err e) → u ≡ t
 unrestored_whole s t {u} e w = go (table_ruling s t) refl
   where
-    go : (a : TableRead) → table_ruling s t ≡ a → u ≡ t
-    go (says es) q = absurd (let z : ◌≡◌ {A = ℕ} 0 1 = cc w.answer in omega arith)
-    go (unsaid x) q = w.table ∙ rw q
+    go : (a : Result (List Entry) Refusal) → table_ruling s t ≡ a → u ≡ t
+    go (Ok es) q = absurd (let z : ◌≡◌ {A = ℕ} 0 1 = cc w.answer in omega arith)
+    go (Err x) q = w.table ∙ rw q

@@ -1,4 +1,5 @@
 -- Round trips of whole tables: what was saved is restored, and what was restored is saved again.
+use Rattle.std.specs.Prelude.{Result, Option, Ok, Err, Some, None}
 use mathlib.Core.Path.{◌≡◌, refl, sym, ap, ◌∙◌}
 use mathlib.Core.Logic.{◌≢◌, inl, inr}
 use mathlib.Core.Bool.{Bool, true, false, cond}
@@ -8,6 +9,7 @@ use native.Mathlib.Omega.{arith}
 use borrow.Author.Tests.{eq-eqb, ne_eqb, eqb-true, eqb-false, le-leb, lt-ltb, le-ltb, ltb-true, ltb-false}
 use lib.Dec.{eqb, ltb}
 use lib.ListN.{length}
+use Rattle.refusal.specs.declared.Refusal.{Refusal}
 use Rattle.integers.proofs.Balance.{Decided, yes, no, test}
 use Rattle.position.specs.Position.{word_of}
 use Rattle.position.proofs.PositionLaws.{position_word, word_position}
@@ -32,8 +34,6 @@ use Rattle.row_saving.specs.Saving.{saved_of, said_row}
 use Rattle.row_saving.proofs.SaveLaws.{said_holds, saved_within}
 use Rattle.table_rows.specs.Table.{axes_in, row_at}
 use Rattle.table_rows.proofs.RowsLaws.{axes_fit, axes_most}
-use Rattle.table_record.specs.declared.row.RowSays.{RowSays}
-use Rattle.table_record.specs.declared.row.RowSays.TheVariants.{Nothing, Axis as Has, Broken as Unsound}
 use Rattle.table_record.specs.Saving.{said_by, row_says, entry_of_row, entries_to, entries_in}
 use Rattle.table_record.specs.Restoring.{all_below, all_empty, filled}
 use Rattle.table_whole.specs.Share.{last_said, row_said}
@@ -44,7 +44,7 @@ use Rattle.table_record.proofs.RestoringLaws.{empty_each, filled_length, below_b
 -- ---- what a row says
 
 -- A row that a record says adds what the record says.
-said_says : (s : Saved) → within_limits s ≡ true → row_says (said_row s) ≡ Has s
+said_says : (s : Saved) → within_limits s ≡ true → row_says (said_row s) ≡ Ok (Some s)
 unfolding row_says
 said_says s w = go (sampled_kind s.config.kind) h.status
   where
@@ -54,21 +54,21 @@ said_says s w = go (sampled_kind s.config.kind) h.status
     same : saved_of (axis_of (said_row s)) ≡ s
     same = ap saved_of h.axis ∙ rw (position_word s.position (within_parts s w).1)
 
-    go : (b : Bool) → status_of (said_row s) ≡ cond b Sampled Counter → said_by (saved_of (axis_of (said_row s))) (status_of (said_row s)) ≡ Has s
-    go true e = rw e (ap Has same)
-    go false e = rw e (ap Has same)
+    go : (b : Bool) → status_of (said_row s) ≡ cond b Sampled Counter → said_by (saved_of (axis_of (said_row s))) (status_of (said_row s)) ≡ Ok (Some s)
+    go true e = rw e (ap (λ (z : Saved). Ok (Some z)) same)
+    go false e = rw e (ap (λ (z : Saved). Ok (Some z)) same)
 
 -- An empty row adds nothing.
-pub empty_says : (r : Row) → status_of r ≡ Empty → row_says r ≡ Nothing
+pub empty_says : (r : Row) → status_of r ≡ Empty → row_says r ≡ Ok None
 unfolding row_says
 empty_says r e = rw e
 
 -- A sampled row and a counter add what a save of them alone says, within its limits.
-live_says : (r : Row) (s : Saved) → row_says r ≡ Has s → Live r × (s ≡ saved_of (axis_of r))
+live_says : (r : Row) (s : Saved) → row_says r ≡ Ok (Some s) → Live r × (s ≡ saved_of (axis_of r))
 unfolding row_says
 live_says r s = go (status_of r) refl
   where
-    go : (q : Status) → status_of r ≡ q → said_by (saved_of (axis_of r)) q ≡ Has s → Live r × (s ≡ saved_of (axis_of r))
+    go : (q : Status) → status_of r ≡ q → said_by (saved_of (axis_of r)) q ≡ Ok (Some s) → Live r × (s ≡ saved_of (axis_of r))
     go Empty e k = let z : ◌≡◌ {A = ℕ} 0 1 = cc in absurd (omega arith)
     go Sampled e k = (inl e, cc)
     go Counter e k = (inr e, cc)
@@ -93,10 +93,10 @@ bound_rows zero t = omega arith
 bound_rows (suc k) t =
     rw (bound_append 0 (entries_to k t) (entry_of_row k (row_says (row_at t k)))) (go (row_says (row_at t k)) (bound_rows k t))
   where
-    go : (x : RowSays) → bound_of 0 (entries_to k t) ≤ k → bound_of (bound_of 0 (entries_to k t)) (entry_of_row k x) ≤ suc k
-    go Nothing h = omega arith
-    go (Has s) h = omega arith
-    go Unsound h = omega arith
+    go : (x : Result (Option Saved) Refusal) → bound_of 0 (entries_to k t) ≤ k → bound_of (bound_of 0 (entries_to k t)) (entry_of_row k x) ≤ suc k
+    go (Ok None) h = omega arith
+    go (Ok (Some s)) h = omega arith
+    go (Err q) h = omega arith
 
 rising_rows : (n : ℕ) (t : List ℕ) → n ≤ 256 → Ascending 0 (entries_to n t)
 unfolding entries_to
@@ -104,12 +104,12 @@ rising_rows zero t h = tt
 rising_rows (suc k) t h =
     rising_append 0 (entries_to k t) (entry_of_row k (row_says (row_at t k))) (rising_rows k t (omega arith)) (go (row_says (row_at t k)) refl)
   where
-    go : (x : RowSays) → row_says (row_at t k) ≡ x → Ascending (bound_of 0 (entries_to k t)) (entry_of_row k x)
-    go Nothing e = tt
-    go (Has s) e =
+    go : (x : Result (Option Saved) Refusal) → row_says (row_at t k) ≡ x → Ascending (bound_of 0 (entries_to k t)) (entry_of_row k x)
+    go (Ok None) e = tt
+    go (Ok (Some s)) e =
         let l = live_says (row_at t k) s e in
         (bound_rows k t, omega arith, rw l.1 (saved_within (row_at t k) l.0), tt)
-    go Unsound e = tt
+    go (Err q) e = tt
 
 -- What a table saves can be told, and its axes are below its number of rows.
 pub saved_tellable : (t : List ℕ) → Tellable (entries_in t)
@@ -134,23 +134,23 @@ said_append k [] fs r = refl
 said_append k (e ∷ es) fs r = said_append k es fs (cond (eqb e.axis k) (said_row e.saved) r)
 
 -- The row that what a row adds is put as.
-abbrev pub put_as : RowSays → Row → Row
-put_as Nothing r = r
-put_as (Has s) r = said_row s
-put_as Unsound r = r
+abbrev pub put_as : Result (Option Saved) Refusal → Row → Row
+put_as (Ok None) r = r
+put_as (Ok (Some s)) r = said_row s
+put_as (Err q) r = r
 
 -- An entry of row j is put there, and nowhere else.
-entry_there : (k : ℕ) (x : RowSays) (r : Row) → row_said k (entry_of_row k x) r ≡ put_as x r
+entry_there : (k : ℕ) (x : Result (Option Saved) Refusal) (r : Row) → row_said k (entry_of_row k x) r ≡ put_as x r
 unfolding last_said
-entry_there k Nothing r = refl
-entry_there k (Has s) r = rw (eq-eqb k k refl)
-entry_there k Unsound r = refl
+entry_there k (Ok None) r = refl
+entry_there k (Ok (Some s)) r = rw (eq-eqb k k refl)
+entry_there k (Err q) r = refl
 
-entry_else : (k j : ℕ) (x : RowSays) (r : Row) → j ≢ k → row_said k (entry_of_row j x) r ≡ r
+entry_else : (k j : ℕ) (x : Result (Option Saved) Refusal) (r : Row) → j ≢ k → row_said k (entry_of_row j x) r ≡ r
 unfolding last_said
-entry_else k j Nothing r d = refl
-entry_else k j (Has s) r d = rw (ne_eqb j k d)
-entry_else k j Unsound r d = refl
+entry_else k j (Ok None) r d = refl
+entry_else k j (Ok (Some s)) r d = rw (ne_eqb j k d)
+entry_else k j (Err q) r d = refl
 
 -- Of the entries of the first n rows, row k's own is what is put there.
 rows_said : (n k : ℕ) (t : List ℕ) (r : Row) → row_said k (entries_to n t) r ≡ cond (ltb k n) (put_as (row_says (row_at t k)) r) r
@@ -223,7 +223,7 @@ none_said k least (e ∷ es) r a h =
     rw (ne_eqb e.axis k d) (none_said k (suc e.axis) es r a.3 (omega (arith, a.0)))
 
 -- One number more: the entry that is put in an empty row k, if there is one.
-up_next : (k least : ℕ) (es : List Entry) (r : Row) → Ascending least es → row_says r ≡ Nothing →
+up_next : (k least : ℕ) (es : List Entry) (r : Row) → Ascending least es → row_says r ≡ Ok None →
     up_to (suc k) es ≡ up_to k es ++ entry_of_row k (row_says (row_said k es r))
 unfolding up_to last_said
 up_next k least [] r a e = rw e

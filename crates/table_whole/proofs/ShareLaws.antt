@@ -1,4 +1,5 @@
 -- A whole-table restore, axis by axis: the row that it leaves and what it answers are those of the axis's own share.
+use Rattle.std.specs.Prelude.{Ok, Err, Result, is_err}
 use mathlib.Core.Path.{◌≡◌, refl, sym, ap, ◌∙◌, subst}
 use mathlib.Core.Logic.{◌≢◌, ◌↔◌}
 use mathlib.Core.Bool.{Bool, true, false, not, cond, ◌&&◌, ◌||◌, true≢false}
@@ -19,17 +20,15 @@ use Rattle.record_axis.specs.Limits.{within_limits}
 use Rattle.record_axis.specs.declared.saved.Saved.{Saved}
 use Rattle.record_table.proofs.RoundTrip.{Limited}
 use Rattle.record_entry.specs.declared.entry.Entry.{Entry}
-use Rattle.record_table.specs.TableRecord.{TableRead, says, unsaid, table_read_as}
+use Rattle.record_table.specs.TableRecord.{table_read_as}
 use Rattle.row_saving.specs.Saving.{said_row}
 use Rattle.row_calls.proofs.SetupLaws.{not_zero}
-use Rattle.row_calls.specs.declared.answer.Done.TheVariants.{Yes, Refused}
 use Rattle.row_calls.specs.Answer.{done_of}
 use Rattle.row_calls.specs.Calls.{left_by}
-use Rattle.row_calls.specs.declared.answer.Changed.TheVariants.{To, Kept}
 use Rattle.table_rows.specs.Table.{axes_in, row_at, set_row}
 use Rattle.table_rows.proofs.RowsLaws.{axes_fit, length_set_row, row_same, row_other}
 use Rattle.table_record.specs.Restoring.{all_below, all_empty, filled, ruling_on, table_ruling, table_done, table_left, TableRestores}
-use Rattle.table_whole.specs.Share.{Share, last_said, row_said, mentions, SaysOf, here, later, shared_by, share_row, others_full, share_of, is_unsaid, refuses_table}
+use Rattle.table_whole.specs.Share.{Share, last_said, row_said, mentions, SaysOf, here, later, shared_by, share_row, others_full, share_of, refuses_table}
 use Rattle.table_record.proofs.AnyRowLaws.{none_passes}
 use Rattle.table_record.proofs.RestoringLaws.{empty_not, empty_each, empty_all}
 
@@ -91,20 +90,20 @@ module _ (k : ℕ) (t : List ℕ) (h : k < axes_in (length t)) (s : List ℕ) wh
   share = share_of k t s
 
   -- what is read comes to the same for the table and for the axis
-  ruled : (a : TableRead) →
+  ruled : (a : Result (List Entry) Refusal) →
       (table_done (ruling_on n t a) ≡ done_of (shared_by share a (row_at t k)))
       × (row_at (table_left t (ruling_on n t a)) k ≡ left_by (row_at t k) (shared_by share a (row_at t k)))
-  ruled (unsaid e) = (refl, refl)
-  ruled (says es) = rw (empty_share k t n h) (go (all_below n es) (others_full k n t) (is_empty (row_at t k)))
+  ruled (Err e) = (refl, refl)
+  ruled (Ok es) = rw (empty_share k t n h) (go (all_below n es) (others_full k n t) (is_empty (row_at t k)))
     where
       fits : k * 4 + 4 ≤ length t
       fits = omega (arith, axes_fit (length t))
 
       go : (b o v : Bool) →
-          (table_done (cond b (cond (not o && v) (says es) (unsaid Occupied)) (unsaid Axis))
-          ≡ done_of (cond b (cond o (Kept Occupied) (cond v (To (row_said k es (row_at t k))) (Kept Occupied))) (Kept Axis)))
-          × (row_at (table_left t (cond b (cond (not o && v) (says es) (unsaid Occupied)) (unsaid Axis))) k
-          ≡ left_by (row_at t k) (cond b (cond o (Kept Occupied) (cond v (To (row_said k es (row_at t k))) (Kept Occupied))) (Kept Axis)))
+          (table_done (cond b (cond (not o && v) (Ok es) (Err Occupied)) (Err Axis))
+          ≡ done_of (cond b (cond o (Err Occupied) (cond v (Ok (row_said k es (row_at t k))) (Err Occupied))) (Err Axis)))
+          × (row_at (table_left t (cond b (cond (not o && v) (Ok es) (Err Occupied)) (Err Axis))) k
+          ≡ left_by (row_at t k) (cond b (cond o (Err Occupied) (cond v (Ok (row_said k es (row_at t k))) (Err Occupied))) (Err Axis)))
       go false o v = (refl, refl)
       go true true v = (refl, refl)
       go true false false = (refl, refl)
@@ -122,26 +121,26 @@ module _ (k : ℕ) (t : List ℕ) (h : k < axes_in (length t)) (s : List ℕ) wh
   -- It leaves axis k the row that its own share makes.
   pub share_row_lem : row_at (table_left t (table_ruling s t)) k ≡ left_by (row_at t k) (share_row share (row_at t k))
   unfolding share_row
-  share_row_lem = ap (λ (a : TableRead). row_at (table_left t a) k) ruling_is ∙ (ruled (table_read_as s)).1
+  share_row_lem = ap (λ (a : Result (List Entry) Refusal). row_at (table_left t a) k) ruling_is ∙ (ruled (table_read_as s)).1
 
-  -- To the axis it is all one whether it is told that another row was not empty or that the call was refused.
+  -- Ok the axis it is all one whether it is told that another row was not empty or that the call was refused.
   pub share_refused :
       share_row share (row_at t k) ≡ share_row (record { axis = k; axes = n; bytes = s; others = refuses_table t s }) (row_at t k)
   unfolding share_row
   share_refused = rw ruling_is (read (table_read_as s))
     where
-      read : (a : TableRead) →
+      read : (a : Result (List Entry) Refusal) →
           shared_by share a (row_at t k)
-          ≡ shared_by (record { axis = k; axes = n; bytes = s; others = is_unsaid (ruling_on n t a) }) a (row_at t k)
-      read (unsaid e) = refl
-      read (says es) = rw (empty_share k t n h) (go (all_below n es) (others_full k n t) (is_empty (row_at t k)))
+          ≡ shared_by (record { axis = k; axes = n; bytes = s; others = is_err (ruling_on n t a) }) a (row_at t k)
+      read (Err e) = refl
+      read (Ok es) = rw (empty_share k t n h) (go (all_below n es) (others_full k n t) (is_empty (row_at t k)))
         where
           go : (b o v : Bool) →
-              cond b (cond o (Kept Occupied) (cond v (To (row_said k es (row_at t k))) (Kept Occupied))) (Kept Axis)
+              cond b (cond o (Err Occupied) (cond v (Ok (row_said k es (row_at t k))) (Err Occupied))) (Err Axis)
               ≡ cond b
-              (cond (is_unsaid (cond b (cond (not o && v) (says es) (unsaid Occupied)) (unsaid Axis))) (Kept Occupied)
-              (cond v (To (row_said k es (row_at t k))) (Kept Occupied)))
-              (Kept Axis)
+              (cond (is_err (cond b (cond (not o && v) (Ok es) (Err Occupied)) (Err Axis))) (Err Occupied)
+              (cond v (Ok (row_said k es (row_at t k))) (Err Occupied)))
+              (Err Axis)
           go false o v = refl
           go true true v = refl
           go true false true = refl
@@ -150,35 +149,35 @@ module _ (k : ℕ) (t : List ℕ) (h : k < axes_in (length t)) (s : List ℕ) wh
 -- ---- a row that is not empty
 
 -- What a whole-table restore of a record that is read is refused for where a row is not empty.
-abbrev pub reason_in : ℕ → TableRead → Refusal
-reason_in n (says es) = cond (all_below n es) Occupied Axis
-reason_in n (unsaid e) = e
+abbrev pub reason_in : ℕ → Result (List Entry) Refusal → Refusal
+reason_in n (Ok es) = cond (all_below n es) Occupied Axis
+reason_in n (Err e) = e
 
 -- It is refused for that, whatever the others are.
-pub share_full : (w : Share) (r : Row) → (status_of r ≡ Empty → ⊥) → share_row w r ≡ Kept (reason_in w.axes (table_read_as w.bytes))
+pub share_full : (w : Share) (r : Row) → (status_of r ≡ Empty → ⊥) → share_row w r ≡ Err (reason_in w.axes (table_read_as w.bytes))
 unfolding share_row
 share_full w r full = go (table_read_as w.bytes)
   where
     say : (es : List Entry) (b o : Bool) →
-        cond b (cond o (Kept Occupied) (cond false (To (row_said w.axis es r)) (Kept Occupied))) (Kept Axis) ≡ Kept (cond b Occupied Axis)
+        cond b (cond o (Err Occupied) (cond false (Ok (row_said w.axis es r)) (Err Occupied))) (Err Axis) ≡ Err (cond b Occupied Axis)
     say es false o = refl
     say es true true = refl
     say es true false = refl
 
-    go : (a : TableRead) → shared_by w a r ≡ Kept (reason_in w.axes a)
-    go (unsaid e) = refl
-    go (says es) = rw (not_zero r full) (say es (all_below w.axes es) w.others)
+    go : (a : Result (List Entry) Refusal) → shared_by w a r ≡ Err (reason_in w.axes a)
+    go (Err e) = refl
+    go (Ok es) = rw (not_zero r full) (say es (all_below w.axes es) w.others)
 
 -- So is the restore of a table in which it stands, and every word stays.
 pub full_ruling : (k : ℕ) (t : List ℕ) → k < axes_in (length t) → (s : List ℕ) → (status_of (row_at t k) ≡ Empty → ⊥) →
-    table_ruling s t ≡ unsaid (reason_in (axes_in (length t)) (table_read_as s))
+    table_ruling s t ≡ Err (reason_in (axes_in (length t)) (table_read_as s))
 full_ruling k t h s full = ruling_is k t h s ∙ go (table_read_as s)
   where
-    go : (a : TableRead) → ruling_on (axes_in (length t)) t a ≡ unsaid (reason_in (axes_in (length t)) a)
-    go (unsaid e) = refl
-    go (says es) = rw (empty_not (axes_in (length t)) k t h (not_zero (row_at t k) full)) (say (all_below (axes_in (length t)) es))
+    go : (a : Result (List Entry) Refusal) → ruling_on (axes_in (length t)) t a ≡ Err (reason_in (axes_in (length t)) a)
+    go (Err e) = refl
+    go (Ok es) = rw (empty_not (axes_in (length t)) k t h (not_zero (row_at t k) full)) (say (all_below (axes_in (length t)) es))
       where
-        say : (b : Bool) → cond b (cond false (says es) (unsaid Occupied)) (unsaid Axis) ≡ unsaid (cond b Occupied Axis)
+        say : (b : Bool) → cond b (cond false (Ok es) (Err Occupied)) (Err Axis) ≡ Err (cond b Occupied Axis)
         say true = refl
         say false = refl
 
@@ -223,8 +222,8 @@ says_within k x _ l (later {e} {es} s) = says_within k x es l.1 s
 -- ---- refused, and done
 
 -- What a restore is refused for goes by the record and the number of axes alone.
-pub refused_reason : (s t : List ℕ) {u : List ℕ} (e : Refusal) → axes_in (length t) ≢ 0 → TableRestores s t u (Refused e) →
-    (table_ruling s t ≡ unsaid e) × (e ≡ reason_in (axes_in (length t)) (table_read_as s))
+pub refused_reason : (s t : List ℕ) {u : List ℕ} (e : Refusal) → axes_in (length t) ≢ 0 → TableRestores s t u (Err e) →
+    (table_ruling s t ≡ Err e) × (e ≡ reason_in (axes_in (length t)) (table_read_as s))
 unfolding table_ruling
 refused_reason s t e some w =
     let q = sym w.answer in
@@ -234,20 +233,20 @@ refused_reason s t e some w =
     n = axes_in (length t)
 
     say : (es : List Entry) (b v : Bool) →
-        table_done (cond b (cond v (says es) (unsaid Occupied)) (unsaid Axis)) ≡ Refused e →
-        (cond b (cond v (says es) (unsaid Occupied)) (unsaid Axis) ≡ unsaid e) × (e ≡ cond b Occupied Axis)
+        table_done (cond b (cond v (Ok es) (Err Occupied)) (Err Axis)) ≡ Err e →
+        (cond b (cond v (Ok es) (Err Occupied)) (Err Axis) ≡ Err e) × (e ≡ cond b Occupied Axis)
     say es true true q = absurd (let z : ◌≡◌ {A = ℕ} 0 1 = cc in omega arith)
-    say es true false q = (ap unsaid cc, cc)
-    say es false v q = (ap unsaid cc, cc)
+    say es true false q = (ap Err cc, cc)
+    say es false v q = (ap Err cc, cc)
 
-    go : (a : TableRead) → table_done (ruling_on n t a) ≡ Refused e → (ruling_on n t a ≡ unsaid e) × (e ≡ reason_in n a)
-    go (unsaid x) q = (ap unsaid cc, cc)
-    go (says es) q = say es (all_below n es) (all_empty n t) q
+    go : (a : Result (List Entry) Refusal) → table_done (ruling_on n t a) ≡ Err e → (ruling_on n t a ≡ Err e) × (e ≡ reason_in n a)
+    go (Err x) q = (ap Err cc, cc)
+    go (Ok es) q = say es (all_below n es) (all_empty n t) q
 
 -- A restore that is done puts some axes.
-pub done_says : (s t : List ℕ) {u : List ℕ} → TableRestores s t u Yes → (es : List Entry) × (table_ruling s t ≡ says es) × (u ≡ filled t es)
+pub done_says : (s t : List ℕ) {u : List ℕ} → TableRestores s t u (Ok tt) → (es : List Entry) × (table_ruling s t ≡ Ok es) × (u ≡ filled t es)
 done_says s t {u} w = go (table_ruling s t) refl
   where
-    go : (a : TableRead) → table_ruling s t ≡ a → (es : List Entry) × (table_ruling s t ≡ says es) × (u ≡ filled t es)
-    go (says es) q = (es, q, w.table ∙ rw q)
-    go (unsaid e) q = absurd (let z : ◌≡◌ {A = ℕ} 0 1 = cc w.answer in omega arith)
+    go : (a : Result (List Entry) Refusal) → table_ruling s t ≡ a → (es : List Entry) × (table_ruling s t ≡ Ok es) × (u ≡ filled t es)
+    go (Ok es) q = (es, q, w.table ∙ rw q)
+    go (Err e) q = absurd (let z : ◌≡◌ {A = ℕ} 0 1 = cc w.answer in omega arith)

@@ -1,4 +1,5 @@
 -- What docs/RULES.md states, computed to its end: "The record of a whole table", a restore as one axis has it.
+use Rattle.std.specs.Prelude.{Ok, Err}
 use mathlib.Core.Path.{◌≡◌, refl}
 use mathlib.Core.Bool.{Bool, true, false}
 use mathlib.Core.List.{List, [], ◌∷◌, map}
@@ -12,7 +13,6 @@ use Rattle.tagged.specs.Field.{field_at}
 use Rattle.record.specs.Record.{layout_refusal}
 use Rattle.record_entry.specs.Entry.{counter_from, sampled_from, saved_at, entry_from}
 use Rattle.record_table.specs.TableRecord.{closes_at, entries_at, table_read_as}
-use Rattle.row_calls.specs.declared.answer.Changed.TheVariants.{To, Kept}
 use Rattle.table_rows.specs.Table.{axes_in, row_at}
 use Rattle.table_record.specs.AnyRow.{any_row}
 use Rattle.table_record.specs.Restoring.{all_below, table_ruling}
@@ -26,9 +26,9 @@ share others bytes = record { axis = 1; axes = 2; bytes = bytes; others = others
 -- The row of axis 1: what is said of it where all are empty, OCCUPIED where another row is not, or its own.
 pub share_stated :
     (map (λ w. share_row w (row_at (none []) 0)) (share false one ∷ share true one ∷ share false zero_axes ∷ [])
-    ≡ To (row_at (narrow []) 0) ∷ Kept Occupied ∷ To (row_at (none []) 0) ∷ [])
-    × (share_row (share false one) (row_at (bad []) 0) ≡ Kept Occupied)
-    × (share_row (record { axis = 0; axes = 1; bytes = one; others = true }) (row_at (x4 []) 0) ≡ Kept Axis)
+    ≡ Ok (row_at (narrow []) 0) ∷ Err Occupied ∷ Ok (row_at (none []) 0) ∷ [])
+    × (share_row (share false one) (row_at (bad []) 0) ≡ Err Occupied)
+    × (share_row (record { axis = 0; axes = 1; bytes = one; others = true }) (row_at (x4 []) 0) ≡ Err Axis)
 unfolding most_axes row_at number_from starts field_at good_config in_range counter_from sampled_from saved_at entry_from closes_at entries_at table_read_as
     all_below last_said share_row word_of
 share_stated = (refl, refl, refl)

@@ -1,4 +1,5 @@
 -- Whole tables, saved and restored: the calls by what they promise.
+use Rattle.std.specs.Prelude.{Result, Option, Ok, ⊤}
 use mathlib.Core.Path.{◌≡◌, refl, sym, ap, ◌∙◌}
 use mathlib.Core.Logic.{◌≢◌, inl, inr}
 use mathlib.Core.Bool.{Bool, true, false, cond}
@@ -19,17 +20,12 @@ use Rattle.axis_sound.specs.declared.Status.{Status}
 use Rattle.axis_sound.specs.declared.Status.TheVariants.{Empty, Sampled, Counter, Broken}
 use Rattle.axis_sound.proofs.SoundLaws.{status_exactly}
 use Rattle.tagged.specs.Bytes.{AllBytes}
-use Rattle.record.specs.declared.answer.Written.{Written}
-use Rattle.record.specs.declared.answer.Written.TheVariants.{Bytes}
 use Rattle.record_entry.specs.declared.entry.Entry.{Entry}
-use Rattle.record_table.specs.TableRecord.{says, table_read_as, table_record_of}
+use Rattle.record_table.specs.TableRecord.{table_read_as, table_record_of}
 use Rattle.record_table.proofs.OrderLaws.{table_exactly}
 use Rattle.record_table.proofs.RoundTrip.{Limited, written_read, read_written, read_tellable, read_within}
-use Rattle.row_calls.specs.declared.answer.Done.{Done}
-use Rattle.row_calls.specs.declared.answer.Done.TheVariants.{Yes}
 use Rattle.row_calls.proofs.StatusLaws.{Live, live_position}
 use Rattle.row_calls.specs.Calls.{and_then, setup_row, preset_row}
-use Rattle.row_calls.specs.declared.answer.Changed.TheVariants.{To}
 use Rattle.row_calls.proofs.SetupLaws.{on_empty_lem}
 use Rattle.row_saving.specs.Saving.{saved_of, said_row}
 use Rattle.row_saving.proofs.SaveLaws.{said_holds, said_sets_up, saved_within}
@@ -37,7 +33,6 @@ use Rattle.table_rows.specs.Table.{axes_in, row_at}
 use Rattle.table_rows.proofs.RowsLaws.{axes_fit}
 use Rattle.table_record.specs.Saving.{entries_in, record_in, front_by, TableSaves}
 use Rattle.table_record.specs.Restoring.{all_below, all_empty, filled, TableRestores}
-use Rattle.table_record.specs.declared.row.RowSays.{RowSays}
 use Rattle.table_whole.specs.Answers.{SaveAnswers, no_table, broken_row, no_room, saved}
 use Rattle.table_whole.specs.Answers.{EachBelow, RestoreAnswers, no_rows, no_record, no_axis, full_row, restored}
 use Rattle.table_record.proofs.RestoringLaws.{empty_each, empty_all, filled_length, restore_fills}
@@ -46,6 +41,8 @@ use Rattle.table_whole.proofs.ShareLaws.{filled_row}
 use Rattle.table_whole.proofs.RoundTrip.{put_as, saved_tellable, saved_below, restored_row, beyond_row, live_put, empty_says, filled_entries}
 use Rattle.table_whole.proofs.AnswerLaws.{below_each, save_exactly, restore_exactly}
 use Rattle.table_record.proofs.OutcomeLaws.{restores_one}
+use Rattle.refusal.specs.declared.Refusal.{Refusal}
+use Rattle.record_axis.specs.declared.saved.Saved.{Saved}
 
 -- A row that is neither empty nor broken is sampled or a counter.
 live_is : (r : Row) → status_of r ≢ Empty → status_of r ≢ Broken → Live r
@@ -61,16 +58,16 @@ live_is r full sound = go (status_of r) refl
 put_sets_up : (r : Row) → Live r → (q : Row) → status_of q ≡ Empty →
     and_then (setup_row (axis_of r).config.kind (axis_of r).config.depth (axis_of r).config.width (axis_of r).config.turn q)
     (preset_row (position_of (axis_of r).word))
-    ≡ To (row_of (fresh_at (axis_of r).config (axis_of r).word))
+    ≡ Ok (row_of (fresh_at (axis_of r).config (axis_of r).word))
 put_sets_up r live q empty =
     let said = saved_of (axis_of r) in
     sym (said_sets_up said (saved_within r live) q)
-    ∙ on_empty_lem (To (said_row said)) q empty
-    ∙ ap (λ (w : ℕ). To (row_of (fresh_at (axis_of r).config w))) (word_position (axis_of r).word (live_position r live))
+    ∙ on_empty_lem (Ok (said_row said)) q empty
+    ∙ ap (λ (w : ℕ). Ok (row_of (fresh_at (axis_of r).config w))) (word_position (axis_of r).word (live_position r live))
 
 -- ---- what a save wrote
 
-module _ (t b : List ℕ) (n : ℕ) {d : List ℕ} (w : TableSaves t b d (Bytes n)) where
+module _ (t b : List ℕ) (n : ℕ) {d : List ℕ} (w : TableSaves t b d (Ok n)) where
   -- It is of a table, has no broken row, and its bytes are the table's record, for which there is room.
   record Wrote : Type 0 where
     some : axes_in (length t) ≢ 0
@@ -79,9 +76,9 @@ module _ (t b : List ℕ) (n : ℕ) {d : List ℕ} (w : TableSaves t b d (Bytes 
     room : length (record_in t) ≤ length b
 
   wrote : Wrote
-  wrote = go ((save_exactly t (length b) (Bytes n)).0 w.answer) refl
+  wrote = go ((save_exactly t (length b) (Ok n)).0 w.answer) refl
     where
-      go : {a : Written} → SaveAnswers t (length b) a → Bytes n ≡ a → Wrote
+      go : {a : Result ℕ Refusal} → SaveAnswers t (length b) a → Ok n ≡ a → Wrote
       go (no_table z) q = absurd (let z : ◌≡◌ {A = ℕ} 0 1 = cc in omega arith)
       go (broken_row k h e) q = absurd (let z : ◌≡◌ {A = ℕ} 0 1 = cc in omega arith)
       go (no_room z s l) q = absurd (let z : ◌≡◌ {A = ℕ} 0 1 = cc in omega arith)
@@ -101,20 +98,20 @@ module _ (t b : List ℕ) (n : ℕ) {d : List ℕ} (w : TableSaves t b d (Bytes 
   -- ---- restored
 
   module _ (u : List ℕ) (fits : axes_in (length t) ≤ axes_in (length u))
-      (empty : (k : ℕ) → k < axes_in (length u) → status_of (row_at u k) ≡ Empty) {v : List ℕ} {a : Done} (r : TableRestores
+      (empty : (k : ℕ) → k < axes_in (length u) → status_of (row_at u k) ≡ Empty) {v : List ℕ} {a : Result ⊤ Refusal} (r : TableRestores
       (take n d) u v a) where
-    fills : TableRestores (record_in t) u (filled u (entries_in t)) Yes
+    fills : TableRestores (record_in t) u (filled u (entries_in t)) (Ok tt)
     unfolding passes
     fills =
         restore_fills (record_in t) u (λ z. wrote.some (omega arith)) (entries_in t) (written_read (entries_in t) (saved_tellable t))
         (saved_below t (axes_in (length u)) fits)
         (empty_all (axes_in (length u)) u (λ k h. (status_exactly Empty (row_at u k)).0 (empty k h)))
 
-    outcome : (a ≡ Yes) × (v ≡ filled u (entries_in t))
+    outcome : (a ≡ Ok tt) × (v ≡ filled u (entries_in t))
     outcome = restores_one (record_in t) u (rw front at r) fills
 
     -- A restore of what a save wrote, into a table of empty rows that is as long or longer, is done.
-    pub whole_done : a ≡ Yes
+    pub whole_done : a ≡ Ok tt
     whole_done = outcome.0
 
     -- It gives each row that was saved its configuration and its position, with all else 0, and leaves the others empty.
@@ -125,7 +122,7 @@ module _ (t b : List ℕ) (n : ℕ) {d : List ℕ} (w : TableSaves t b d (Bytes 
         let l : k < axes_in (length u) = omega arith in
         let put = ap (λ (x : List ℕ). row_at x k) outcome.1 ∙ restored_row t u k h l in (
           λ full. put ∙ live_put (row_at t k) (row_at u k) (live_is (row_at t k) full (wrote.sound k h)),
-          λ e. ap status_of (put ∙ ap (λ (x : RowSays). put_as x (row_at u k)) (empty_says (row_at t k) e)) ∙ empty k l,
+          λ e. ap status_of (put ∙ ap (λ (x : Result (Option Saved) Refusal). put_as x (row_at u k)) (empty_says (row_at t k) e)) ∙ empty k l,
         )
 
     -- The rows beyond those of the table that was saved stay empty too.
@@ -138,9 +135,9 @@ module _ (t b : List ℕ) (n : ℕ) {d : List ℕ} (w : TableSaves t b d (Bytes 
         and_then
         (setup_row (axis_of (row_at t k)).config.kind (axis_of (row_at t k)).config.depth (axis_of (row_at t k)).config.width
         (axis_of (row_at t k)).config.turn q) (preset_row (position_of (axis_of (row_at t k)).word))
-        ≡ To (row_at v k)
+        ≡ Ok (row_at v k)
     whole_sets_up k h full q vacant =
-        put_sets_up (row_at t k) (live_is (row_at t k) full (wrote.sound k h)) q vacant ∙ ap To (sym ((whole_row k h).0 full))
+        put_sets_up (row_at t k) (live_is (row_at t k) full (wrote.sound k h)) q vacant ∙ ap Ok (sym ((whole_row k h).0 full))
 
 -- ---- what was restored is saved again
 
@@ -166,27 +163,27 @@ filled_sound k t es h l vacant same =
     let not : status_of (row_at t k) ≢ Broken = λ e. (let z : ◌≡◌ {A = ℕ} 0 1 = cc in omega arith) in
     rw (same, filled_row k t es (omega (arith, axes_fit (length t)))) (said_sound k es (row_at t k) l not)
 
-module _ (s t u : List ℕ) (all : AllBytes s) (r : TableRestores s t u Yes) where
+module _ (s t u : List ℕ) (all : AllBytes s) (r : TableRestores s t u (Ok tt)) where
   -- What a restore that is done found.
   record Found : Type 0 where
     entries : List Entry
     some : axes_in (length t) ≢ 0
-    read : table_read_as s ≡ says entries
+    read : table_read_as s ≡ Ok entries
     below : all_below (axes_in (length t)) entries ≡ true
     vacant : all_empty (axes_in (length t)) t ≡ true
     fills : u ≡ filled t entries
 
   found : Found
   unfolding passes
-  found = go ((restore_exactly s t Yes).0 r.answer) refl
+  found = go ((restore_exactly s t (Ok tt)).0 r.answer) refl
     where
-      go : {a : Done} → RestoreAnswers s t a → Yes ≡ a → Found
+      go : {a : Result ⊤ Refusal} → RestoreAnswers s t a → (Ok tt) ≡ a → Found
       go (no_rows z) q = absurd (let z : ◌≡◌ {A = ℕ} 0 1 = cc in omega arith)
       go (no_record e z j) q = absurd (let z : ◌≡◌ {A = ℕ} 0 1 = cc in omega arith)
       go (no_axis es z j b) q = absurd (let z : ◌≡◌ {A = ℕ} 0 1 = cc in omega arith)
       go (full_row es k j b h e) q = absurd (let z : ◌≡◌ {A = ℕ} 0 1 = cc in omega arith)
       go (restored es z j b v) q =
-          let read = (table_exactly s (says es)).1 j in
+          let read = (table_exactly s (Ok es)).1 j in
           let below = (below_each (axes_in (length t)) es).1 b in
           let vacant = empty_all (axes_in (length t)) t (λ k h. (status_exactly Empty (row_at t k)).0 (v k h)) in
           record {
@@ -208,24 +205,24 @@ module _ (s t u : List ℕ) (all : AllBytes s) (r : TableRestores s t u Yes) whe
       ∙ read_written s f.entries all f.read
 
   -- A save of a table that a record filled is the same bytes, into any buffer with room for them, and nothing beyond.
-  pub whole_again : (b : List ℕ) {d : List ℕ} {a : Written} → TableSaves u b d a → length s ≤ length b →
-      (a ≡ Bytes (length s)) × (d ≡ s ++ drop (length s) b)
+  pub whole_again : (b : List ℕ) {d : List ℕ} {a : Result ℕ Refusal} → TableSaves u b d a → length s ≤ length b →
+      (a ≡ Ok (length s)) × (d ≡ s ++ drop (length s) b)
   whole_again b {d} {a} w room =
       let f = found in
       let size = ap length f.fills ∙ filled_length t f.entries in
       let unbroken : (k : ℕ) → k < axes_in (length u) → status_of (row_at u k) ≢ Broken =
       λ k h. filled_sound k t f.entries (rw size at h) (read_within s f.entries f.read) f.vacant f.fills in
       let fits : length (record_in u) ≤ length b = rw same room in
-      let answer = (save_exactly u (length b) (Bytes (length (record_in u)))).1 (saved (rw size f.some) unbroken fits) in
-      let done : a ≡ Bytes (length s) = w.answer ∙ sym answer ∙ ap (λ (x : List ℕ). Bytes (length x)) same in
+      let answer = (save_exactly u (length b) (Ok (length (record_in u)))).1 (saved (rw size f.some) unbroken fits) in
+      let done : a ≡ Ok (length s) = w.answer ∙ sym answer ∙ ap (λ (x : List ℕ). Ok (length x)) same in
       (done, rw same at (saved_whole u b (length s) (rw done at w)))
 
 -- So a record that is accepted, restored into a table of empty rows that has one for each of its axes, is done, and saved again the same
 -- bytes.
-pub again_whole : (s t u : List ℕ) (es : List Entry) (c : Done) → AllBytes s → axes_in (length t) ≢ 0 → table_read_as s ≡ says es →
+pub again_whole : (s t u : List ℕ) (es : List Entry) (c : Result ⊤ Refusal) → AllBytes s → axes_in (length t) ≢ 0 → table_read_as s ≡ Ok es →
     EachBelow (axes_in (length t)) es → ((k : ℕ) → k < axes_in (length t) → status_of (row_at t k) ≡ Empty) → TableRestores s t u c →
-    (c ≡ Yes) × ((b d : List ℕ) (a : Written) → TableSaves u b d a → length s ≤ length b →
-    (a ≡ Bytes (length s)) × (d ≡ s ++ drop (length s) b))
+    (c ≡ Ok tt) × ((b d : List ℕ) (a : Result ℕ Refusal) → TableSaves u b d a → length s ≤ length b →
+    (a ≡ Ok (length s)) × (d ≡ s ++ drop (length s) b))
 again_whole s t u es c all some read below empty w =
-    let done = w.answer ∙ sym ((restore_exactly s t Yes).1 (restored es some ((table_exactly s (says es)).0 read) below empty)) in
+    let done = w.answer ∙ sym ((restore_exactly s t (Ok tt)).1 (restored es some ((table_exactly s (Ok es)).0 read) below empty)) in
     (done, λ b d a. whole_again s t u all (rw done at w) b)

@@ -1,18 +1,17 @@
 -- A whole-table restore as one axis has it: docs/RULES.md, "The record of a whole table" and "The three demands".
-use Rattle.std.specs.Prelude.{ℕ, ◌≡◌, Bool, true, false, not, cond, ◌&&◌, ◌||◌, List, [], ◌∷◌, eqb, length}
+use Rattle.std.specs.Prelude.{ℕ, ◌≡◌, Bool, false, not, cond, ◌&&◌, ◌||◌, List, [], ◌∷◌, eqb, length, Result, Ok, Err, is_err}
 use Rattle.refusal.specs.declared.Refusal.TheVariants.{Axis, Occupied}
 use Rattle.axis.specs.declared.row.Row.{Row}
 use Rattle.axis_sound.specs.Sound.{is_empty}
 use Rattle.record_axis.specs.declared.saved.Saved.{Saved}
 use Rattle.record_entry.specs.declared.entry.Entry.{Entry}
-use Rattle.record_table.specs.TableRecord.{TableRead, says, unsaid, table_read_as}
+use Rattle.record_table.specs.TableRecord.{table_read_as}
 use Rattle.row_saving.specs.Saving.{said_row}
 use Rattle.row_calls.specs.Calls.{on_empty}
-use Rattle.row_calls.specs.declared.answer.Changed.{Changed}
-use Rattle.row_calls.specs.declared.answer.Changed.TheVariants.{To, Kept}
 use Rattle.table_rows.specs.Table.{axes_in}
 use Rattle.table_record.specs.AnyRow.{any_row}
 use Rattle.table_record.specs.Restoring.{all_below, table_ruling}
+use Rattle.refusal.specs.declared.Refusal.{Refusal}
 
 -- What one axis has of a whole-table restore: its own number, how many axes there are, the record's bytes, and the one thing that it is
 -- told of the rest of the table, whether another row was not empty.
@@ -42,15 +41,15 @@ pub data SaysOf (k : ℕ) (x : Saved) : List Entry → Type 0 where
   later : {e : Entry} {es : List Entry} → SaysOf k x es → SaysOf k x (e ∷ es)
 
 -- What a record that is read makes of the axis's row: AXIS, then OCCUPIED where another row or its own is not empty, else its own part.
-abbrev pub shared_by : Share → TableRead → Row → Changed
-shared_by w (says es) r =
+abbrev pub shared_by : Share → Result (List Entry) Refusal → Row → Result Row Refusal
+shared_by w (Ok es) r =
     cond (all_below w.axes es)
-    (cond w.others (Kept Occupied) (on_empty (To (row_said w.axis es r)) r))
-    (Kept Axis)
-shared_by w (unsaid e) r = Kept e
+    (cond w.others (Err Occupied) (on_empty (Ok (row_said w.axis es r)) r))
+    (Err Axis)
+shared_by w (Err e) r = Err e
 
 -- What a whole-table restore makes of the axis's row: its own definition.
-unfoldable pub share_row : Share → Row → Changed
+unfoldable pub share_row : Share → Row → Result Row Refusal
 share_row w r = shared_by w (table_read_as w.bytes) r
 
 -- Whether one of the first n rows other than row k is not empty.
@@ -61,11 +60,6 @@ others_full k = any_row (λ j r. not (eqb j k) && not (is_empty r))
 abbrev pub share_of : ℕ → List ℕ → List ℕ → Share
 share_of k t bytes = record { axis = k; axes = axes_in (length t); bytes = bytes; others = others_full k (axes_in (length t)) t }
 
--- Whether a reading, or what a restore comes to, is a refusal.
-abbrev pub is_unsaid : TableRead → Bool
-is_unsaid (says es) = false
-is_unsaid (unsaid e) = true
-
 -- Whether a whole-table restore of a table is refused.
 abbrev pub refuses_table : List ℕ → List ℕ → Bool
-refuses_table t bytes = is_unsaid (table_ruling bytes t)
+refuses_table t bytes = is_err (table_ruling bytes t)

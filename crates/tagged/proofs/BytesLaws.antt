@@ -12,6 +12,7 @@ use lib.Arith.{digits_div, digits_mod}
 use lib.Dec.{eqb}
 use lib.ListN.{length, take, drop, get_or, length-append, length-drop, length-take}
 use lib.Seq.{take-suc, get_or-drop}
+use Rattle.std.specs.List.{starts_with}
 use Rattle.integers.proofs.Balance.{Decided, yes, no, test}
 use Rattle.tagged.specs.Bytes.{AllBytes, number_from, number_in, number_at, bytes_of, starts}
 
@@ -54,6 +55,11 @@ number_next s at i h =
     let l : i < length (drop at s) = simp length-drop (omega arith) in
     rw (add-one, take-suc (drop at s) i 0 l, get_or-drop at s i 0) (number_snoc 0 (take i (drop at s)) (get_or s (at + i) 0))
 
+-- From the front of a list.
+pub number_more : (xs : List ℕ) (i : ℕ) → i < length xs → number_at xs 0 (i + 1) ≡ number_at xs 0 i * 256 + get_or xs i 0
+number_more xs i h =
+    number_next xs 0 i (omega arith) ∙ ap (λ (k : ℕ). number_at xs 0 i * 256 + get_or xs k 0) (zero-add i)
+
 -- ---- n bytes hold a number below 256 ^ n
 
 from_below : (v : ℕ) (xs : List ℕ) → AllBytes xs → number_from v xs < suc v * 256 ^ length xs
@@ -73,8 +79,20 @@ number_below s at n b =
     let l : length xs ≤ n = simp length-take (omega arith) in
     lt_of_lt_of_le (omega (arith, h)) (pow-le-pow_right {n = 256} (omega arith) {j = n} l)
 
+-- At most seven bytes are a number below 256 ^ 7.
+pub few_below : (xs : List ℕ) (i : ℕ) {v : ℕ} → AllBytes xs → v ≡ number_at xs 0 i → i ≤ 7 → v < 256 ^ 7
+few_below xs i b e h = rw e (lt_of_lt_of_le (number_below xs 0 i b) (pow-le-pow_right {n = 256} (omega arith) {j = 7} h))
+
 -- ---- beginnings
 
+-- Beginning with bytes is what std's `starts_with` says.
+pub starts_as : (xs s : List ℕ) → starts_with eqb s xs ≡ starts xs s
+unfolding starts
+starts_as [] s = refl
+starts_as (x ∷ xs) [] = refl
+starts_as (x ∷ xs) (y ∷ ys) = ap (λ (b : Bool). eqb x y && b) (starts_as xs ys)
+
+-- A slice begins with bytes exactly where it has each of them at its place: with fewer it does not, nor with another byte at one.
 no_and : (t : Bool) {b : Bool} → b ≡ false → (t && b) ≡ false
 no_and true e = e
 no_and false e = refl

@@ -1,4 +1,6 @@
 -- The laws of one field, read and written, at any place of a slice.
+use Rattle.std.specs.Prelude.{Some, None}
+use Rattle.std.proofs.lemmas.Option.{some_pair_parts}
 use mathlib.Core.Path.{◌≡◌, refl, sym, ap, ◌∙◌, subst}
 use mathlib.Core.Bool.{true, false, ◌&&◌, and-eq-true_iff}
 use mathlib.Core.List.{List, ◌++◌}
@@ -11,8 +13,6 @@ use lib.Dec.{eqb, leb}
 use lib.ListN.{length, take, drop, get_or, take-append-drop, length-append, length-drop}
 use lib.Seq.{drop-cons, drop-drop, drop-append_seam, take-append_seam, length-take-le, get_or-drop}
 use Rattle.integers.proofs.Balance.{Decided, yes, no, test}
-use Rattle.tagged.specs.declared.field.Head.TheVariants.{Of, Cut}
-use Rattle.tagged.specs.declared.field.Field.TheVariants.{Value, Bad}
 use Rattle.tagged.specs.Bytes.{AllBytes, number_in, number_at, bytes_of}
 use Rattle.tagged.specs.Field.{head_at, value_at, stands_at, field_at, head_bytes, field_holding, field_bytes}
 use Rattle.tagged.proofs.BytesLaws.{bytes_drop, bytes_take, number_below, number_back, bytes_back, length_bytes_of}
@@ -20,16 +20,16 @@ use Rattle.tagged.proofs.BytesLaws.{bytes_drop, bytes_take, number_below, number
 -- ---- the head
 
 module _ (s : List ℕ) (at : ℕ) where
-  pub head_cut : length s < at + 3 → Cut ≡ head_at s at
+  pub head_cut : length s < at + 3 → None ≡ head_at s at
   unfolding head_at
   head_cut h = rw (lt-leb (at + 3) (length s) h)
 
-  pub head_whole : {n : ℕ} → at + 3 ≤ length s → n ≡ number_at s (at + 1) 2 → Of (get_or s at 0) n ≡ head_at s at
+  pub head_whole : {n : ℕ} → at + 3 ≤ length s → n ≡ number_at s (at + 1) 2 → Some (get_or s at 0, n) ≡ head_at s at
   unfolding head_at
   head_whole h e = rw (le-leb (at + 3) (length s) h, e)
 
   -- A head that is cut has no room.
-  pub cut_told : head_at s at ≡ Cut → length s < at + 3
+  pub cut_told : head_at s at ≡ None → length s < at + 3
   unfolding head_at
   cut_told h = go (test (leb (at + 3) (length s)))
     where
@@ -38,27 +38,27 @@ module _ (s : List ℕ) (at : ℕ) where
       go (no e) = leb-false (at + 3) (length s) e
 
   -- A head that was read stands there, with its tag and its length.
-  pub head_told : {tag n : ℕ} → head_at s at ≡ Of tag n → (at + 3 ≤ length s) × (get_or s at 0 ≡ tag) × (number_at s (at + 1) 2 ≡ n)
+  pub head_told : {tag n : ℕ} → head_at s at ≡ Some (tag, n) → (at + 3 ≤ length s) × (get_or s at 0 ≡ tag) × (number_at s (at + 1) 2 ≡ n)
   unfolding head_at
   head_told {tag} {n} h = go (test (leb (at + 3) (length s)))
     where
       go : Decided (leb (at + 3) (length s)) → (at + 3 ≤ length s) × (get_or s at 0 ≡ tag) × (number_at s (at + 1) 2 ≡ n)
-      go (yes e) = let k = rw e at h in (leb-true (at + 3) (length s) e, cc, cc)
+      go (yes e) = let k = some_pair_parts _ _ _ _ (rw e at h) in (leb-true (at + 3) (length s) e, k.0, k.1)
       go (no e) = let k = rw e at h in let z : ◌≡◌ {A = ℕ} 0 1 = cc in absurd (omega arith)
 
 -- ---- a field in the code's order
 
 module _ (s : List ℕ) (at tag n : ℕ) where
-  pub cut : length s < at + 3 + n → Bad ≡ field_at s at tag n
+  pub cut : length s < at + 3 + n → None ≡ field_at s at tag n
   unfolding field_at
   cut h = rw (lt-leb (at + 3 + n) (length s) h)
 
-  module _ {t m : ℕ} (h : head_at s at ≡ Of t m) (l : at + 3 + n ≤ length s) where
-    pub headless : (eqb t tag && eqb m n) ≡ false → Bad ≡ field_at s at tag n
+  module _ {t m : ℕ} (h : head_at s at ≡ Some (t, m)) (l : at + 3 + n ≤ length s) where
+    pub headless : (eqb t tag && eqb m n) ≡ false → None ≡ field_at s at tag n
     unfolding field_at
     headless e = let k = head_told s at h in rw (le-leb (at + 3 + n) (length s) l, k.1, k.2, e)
 
-    pub whole : {v : ℕ} → (eqb t tag && eqb m n) ≡ true → v ≡ number_at s (at + 3) n → Value v (at + 3 + n) ≡ field_at s at tag n
+    pub whole : {v : ℕ} → (eqb t tag && eqb m n) ≡ true → v ≡ number_at s (at + 3) n → Some (v, at + 3 + n) ≡ field_at s at tag n
     unfolding field_at
     whole e q = let k = head_told s at h in rw (le-leb (at + 3 + n) (length s) l, k.1, k.2, e, q)
 
@@ -66,16 +66,16 @@ module _ (s : List ℕ) (at tag n : ℕ) where
 
 module _ (s : List ℕ) (at tag n : ℕ) {v next : ℕ} where
   -- A field that was read stands there, holds its number, and the next begins behind it.
-  pub field_told : field_at s at tag n ≡ Value v next → (stands_at s at tag n ≡ true) × (number_at s (at + 3) n ≡ v) × (at + 3 + n ≡ next)
+  pub field_told : field_at s at tag n ≡ Some (v, next) → (stands_at s at tag n ≡ true) × (number_at s (at + 3) n ≡ v) × (at + 3 + n ≡ next)
   unfolding field_at
   field_told h = go (test (stands_at s at tag n))
     where
       go : Decided (stands_at s at tag n) → (stands_at s at tag n ≡ true) × (number_at s (at + 3) n ≡ v) × (at + 3 + n ≡ next)
-      go (yes e) = let k = rw e at h in (e, cc, cc)
+      go (yes e) = let k = some_pair_parts _ _ _ _ (rw e at h) in (e, k.0, k.1)
       go (no e) = let k = rw e at h in let z : ◌≡◌ {A = ℕ} 0 1 = cc in absurd (omega arith)
 
   -- The value of a field of n bytes is below 256 ^ n.
-  pub field_below : AllBytes s → field_at s at tag n ≡ Value v next → v < 256 ^ n
+  pub field_below : AllBytes s → field_at s at tag n ≡ Some (v, next) → v < 256 ^ n
   field_below b h = subst (λ (m : ℕ). m < 256 ^ n) (field_told h).1 (number_below s (at + 3) n b)
 
 -- ---- what was read is what was written
@@ -141,7 +141,7 @@ module _ (s : List ℕ) (at tag : ℕ) (value rest : List ℕ) (e : drop at s �
 
 -- A number field that was written at a place is read there, and the next begins behind it.
 pub field_back : (s : List ℕ) (at tag n v : ℕ) (rest : List ℕ) → drop at s ≡ field_bytes tag n v ++ rest → n < 256 ^ 2 → v < 256 ^ n →
-    (field_at s at tag n ≡ Value v (at + 3 + n)) × (drop (at + 3 + n) s ≡ rest)
+    (field_at s at tag n ≡ Some (v, at + 3 + n)) × (drop (at + 3 + n) s ≡ rest)
 unfolding field_at field_bytes
 field_back s at tag n v rest e l h =
     let k = length_bytes_of n v in

@@ -1,5 +1,5 @@
+pub mod AnswerLaws
 pub mod BytesLaws
 pub mod StoreLaws
 pub mod FieldLaws
-pub mod TwosLaws
 pub mod StatedLaws

@@ -1,8 +1,7 @@
 -- What docs/RULES.md states, computed to its end: "The saved record", one field, high byte first in its length and in its value.
+use Rattle.std.specs.Prelude.{Some, None}
 use mathlib.Core.Path.{◌≡◌, refl}
 use mathlib.Core.List.{[], ◌∷◌}
-use Rattle.tagged.specs.declared.field.Head.TheVariants.{Of, Cut}
-use Rattle.tagged.specs.declared.field.Field.TheVariants.{Value, Bad}
 use Rattle.tagged.specs.Bytes.{number_from, bytes_of}
 use Rattle.tagged.specs.Field.{head_bytes, field_bytes, head_at, field_at}
 
@@ -13,9 +12,9 @@ field_written = (refl, refl)
 
 -- The same between other bytes: the number and the place behind it, tag and length, and what is cut by a byte.
 pub field_read :
-    (field_at (9 ∷ 6 ∷ 0 ∷ 4 ∷ 0 ∷ 0 ∷ 16 ∷ 0 ∷ 9 ∷ []) 1 6 4 ≡ Value 4096 8)
-    × (field_at (9 ∷ 6 ∷ 0 ∷ 4 ∷ 0 ∷ 0 ∷ 16 ∷ []) 1 6 4 ≡ Bad)
-    × (head_at (9 ∷ 3 ∷ 1 ∷ 2 ∷ []) 1 ≡ Of 3 258)
-    × (head_at (9 ∷ 3 ∷ 1 ∷ []) 1 ≡ Cut)
+    (field_at (9 ∷ 6 ∷ 0 ∷ 4 ∷ 0 ∷ 0 ∷ 16 ∷ 0 ∷ 9 ∷ []) 1 6 4 ≡ Some (4096, 8))
+    × (field_at (9 ∷ 6 ∷ 0 ∷ 4 ∷ 0 ∷ 0 ∷ 16 ∷ []) 1 6 4 ≡ None)
+    × (head_at (9 ∷ 3 ∷ 1 ∷ 2 ∷ []) 1 ≡ Some (3, 258))
+    × (head_at (9 ∷ 3 ∷ 1 ∷ []) 1 ≡ None)
 unfolding number_from head_at field_at
 field_read = (refl, refl, refl, refl)

@@ -1,12 +1,12 @@
 -- The laws of runs of stores, one after another.
 use mathlib.Core.Path.{◌≡◌, refl, sym, ap, ◌∙◌}
-use mathlib.Core.List.{List, [], ◌∷◌, ◌++◌}
-use Prim.Native.Nat.{ℕ, suc, ◌+◌, ◌/◌, ◌%◌, ◌≤◌, ◌<◌}
+use mathlib.Core.List.{List, [], ◌∷◌, ◌++◌, append_assoc}
+use Prim.Native.Nat.{ℕ, suc, ◌+◌, ◌-◌, ◌/◌, ◌%◌, ◌≤◌}
 use native.Mathlib.Nat.{add-zero, add-suc, suc-add}
-use native.Mathlib.Numerals.{add-one}
 use native.Mathlib.Omega.{arith}
-use lib.ListN.{length, set, take, get_or, length-append}
-use lib.Seq.{sets, set_comm, take-suc, length-take-le}
+use lib.ListN.{length, set, take, drop, length-append}
+use lib.Seq.{sets, sets-eq, set_comm, drop-drop}
+use borrow.Rule.Slice.PartMut.{put_mid}
 use Rattle.tagged.specs.Bytes.{bytes_of}
 use Rattle.tagged.specs.Store.{Puts}
 use Rattle.tagged.specs.Field.{head_bytes, field_bytes}
@@ -23,12 +23,19 @@ sets_append l i (x ∷ xs) ys =
 pub sets_then : (l : List ℕ) (i j : ℕ) (xs ys : List ℕ) → i + length xs ≡ j → sets (sets l i xs) j ys ≡ sets l i (xs ++ ys)
 sets_then l i j xs ys e = ap (λ (k : ℕ). sets (sets l i xs) k ys) (sym e) ∙ sym (sets_append l i xs ys)
 
--- The first bytes of a run from a place on, and one more.
-pub sets_next : (b : List ℕ) (at : ℕ) (bytes : List ℕ) (i : ℕ) → i < length bytes →
-    set (sets b at (take i bytes)) (at + i) (get_or bytes i 0) ≡ sets b at (take (i + 1) bytes)
-sets_next b at bytes i h =
-    rw (add-one, take-suc bytes i 0 h)
-    (sets_then b at (at + i) (take i bytes) (get_or bytes i 0 ∷ []) (ap (λ (k : ℕ). at + k) (length-take-le i bytes (omega arith))))
+-- Bytes copied over a part of a buffer as long as they are.
+pub puts_copy : (b bytes : List ℕ) (at : ℕ) {d : List ℕ} → at + length bytes ≤ length b → d ≡ bytes →
+    Puts bytes b at (put_mid at (at + length bytes - at) b d) (at + length bytes)
+puts_copy b bytes at {d} h e =
+    let n : at + length bytes - at ≡ length bytes = omega arith in
+    record {
+      buffer =
+          ap (λ (l : List ℕ). take at b ++ (l ++ drop (at + length bytes - at) (drop at b))) e
+          ∙ ap (λ (l : List ℕ). take at b ++ (bytes ++ l)) (ap (λ (k : ℕ). drop k (drop at b)) n ∙ drop-drop (length bytes) at b)
+          ∙ sym (append_assoc (take at b) bytes (drop (at + length bytes) b))
+          ∙ sym (sets-eq bytes b at h);
+      behind = refl;
+    }
 
 -- Bytes, and bytes behind them, are bytes in a row.
 pub puts_then : {xs ys b m d : List ℕ} {at j r : ℕ} → Puts xs b at m j → Puts ys m j d r → Puts (xs ++ ys) b at d r

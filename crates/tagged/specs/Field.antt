@@ -1,9 +1,5 @@
 -- One field of a record, a head of tag and length and then the value: docs/RULES.md, "The saved record".
-use Rattle.std.specs.Prelude.{Bool, cond, ◌&&◌, List, ◌∷◌, ◌++◌, ℕ, ◌+◌, eqb, leb, length, take, drop, get_or}
-use Rattle.tagged.specs.declared.field.Head.{Head}
-use Rattle.tagged.specs.declared.field.Head.TheVariants.{Of, Cut}
-use Rattle.tagged.specs.declared.field.Field.{Field}
-use Rattle.tagged.specs.declared.field.Field.TheVariants.{Value, Bad}
+use Rattle.std.specs.Prelude.{Bool, cond, ◌&&◌, List, ◌∷◌, ◌++◌, ℕ, ◌+◌, eqb, leb, length, take, drop, get_or, Option, Some, None}
 use Rattle.tagged.specs.Bytes.{number_in, number_at, bytes_of}
 
 -- A field's head: its tag, and the length of its value in two bytes.
@@ -19,8 +15,8 @@ unfoldable pub field_bytes : ℕ → ℕ → ℕ → List ℕ
 field_bytes tag n v = field_holding tag (bytes_of n v)
 
 -- The head at a place: its tag and the length of its value.
-unfoldable pub head_at : List ℕ → ℕ → Head
-head_at s at = cond (leb (at + 3) (length s)) (Of (get_or s at 0) (number_at s (at + 1) 2)) Cut
+unfoldable pub head_at : List ℕ → ℕ → Option (ℕ × ℕ)
+head_at s at = cond (leb (at + 3) (length s)) (Some (get_or s at 0, number_at s (at + 1) 2)) None
 
 -- The value of n bytes behind the head at a place.
 abbrev pub value_at : List ℕ → ℕ → ℕ → List ℕ
@@ -31,5 +27,5 @@ abbrev pub stands_at : List ℕ → ℕ → ℕ → ℕ → Bool
 stands_at s at tag n = leb (at + 3 + n) (length s) && (eqb (get_or s at 0) tag && eqb (number_at s (at + 1) 2) n)
 
 -- The field at a place that holds a number of n bytes: the number, and where the next field begins.
-unfoldable pub field_at : List ℕ → ℕ → ℕ → ℕ → Field
-field_at s at tag n = cond (stands_at s at tag n) (Value (number_in (value_at s at n)) (at + 3 + n)) Bad
+unfoldable pub field_at : List ℕ → ℕ → ℕ → ℕ → Option (ℕ × ℕ)
+field_at s at tag n = cond (stands_at s at tag n) (Some (number_in (value_at s at n), at + 3 + n)) None

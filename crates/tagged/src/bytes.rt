@@ -9,12 +9,9 @@ pub fn number(slice: &[u8], at: usize, n: usize) -> u64
     requires { (at + n ≤ length slice.now) × (n ≤ 8) }
     ensures { result ≡ number_at slice.now at n }
 {
-    let mut v: u64 = 0;
-    let mut i = 0;
-    while i < n {
-        let byte = slice[at + i] as u64;
-        v = v * 256 + byte;
-        i += 1;
+    let mut v = 0;
+    for byte in &slice[at..at + n] {
+        v = v * 256 + u64::from(*byte);
     }
     v
 }
@@ -25,40 +22,27 @@ pub fn put_number(buf: &mut [u8], at: usize, n: usize, v: u64)
     ensures { buf.new ≡ sets buf.old at (bytes_of n v) }
 {
     let mut rest = v;
-    let mut j = n;
-    while 0 < j {
-        j -= 1;
+    for j in (0..n).rev() {
         buf[at + j] = (rest % 256) as u8;
-        rest = rest / 256;
+        rest /= 256;
     }
 }
 
 // Bytes from a place on; answers the place behind them.
+#[tactic(auto, using(crate::proofs::StoreLaws::puts_copy))]
 pub fn put_bytes(out: &mut [u8], at: usize, bytes: &[u8]) -> usize
     requires { at + length bytes.now ≤ length out.old }
     ensures { Puts bytes.now out.old at out.new result }
 {
-    let mut i = 0;
-    while i < bytes.len() {
-        out[at + i] = bytes[i];
-        i += 1;
-    }
-    at + i
+    let end = at + bytes.len();
+    out[at..end].copy_from_slice(bytes);
+    end
 }
 
 // Whether a slice begins with the bytes of another.
+#[tactic(auto, using(crate::proofs::BytesLaws::starts_as))]
 pub fn starts_with(slice: &[u8], front: &[u8]) -> bool
     ensures { result ≡ starts front.now slice.now }
 {
-    if slice.len() < front.len() {
-        return false;
-    }
-    let mut i = 0;
-    while i < front.len() {
-        if slice[i] != front[i] {
-            return false;
-        }
-        i += 1;
-    }
-    true
+    slice.starts_with(front)
 }

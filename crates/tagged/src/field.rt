@@ -6,50 +6,32 @@ ghost use Rattle.tagged.specs.Store.{Puts};
 
 use crate::bytes::{number, put_number};
 
-// A head that was read: its tag, and the length of the value that begins three bytes on.
-#[derive(Clone, Copy)]
-pub enum Head {
-    Of(u8, usize),
-    Cut,
-}
-
-// A field of a number that was read: its value, and where the next begins.
-#[derive(Clone, Copy)]
-pub enum Field {
-    Value(u64, usize),
-    Bad,
-}
-
-// The head at at, if the slice does not end before it does.
-pub fn read_head(slice: &[u8], at: usize) -> Head
+// The head at at, its tag and the length of the value that begins three bytes on, if the slice does not end before it does.
+#[tactic(auto, using(crate::proofs::FieldLaws::head_cut, crate::proofs::FieldLaws::head_whole))]
+pub fn read_head(slice: &[u8], at: usize) -> Option<(u8, usize)>
     ensures { result ≡ head_at slice.now at }
 {
-    if slice.len() < at {
-        return Head::Cut;
-    }
-    if slice.len() - at < 3 {
-        return Head::Cut;
+    if slice.len() < at || slice.len() - at < 3 {
+        return None;
     }
     let length = number(slice, at + 1, 2) as usize;
-    Head::Of(slice[at], length)
+    Some((slice[at], length))
 }
 
-// The field at at, if it has this tag and holds a number of n bytes.
-pub fn read_field(slice: &[u8], at: usize, tag: u8, n: usize) -> Field
+// The field at at, its value and where the next begins, if it has this tag and holds a number of n bytes.
+#[tactic(auto, using(crate::proofs::FieldLaws::cut_told, crate::proofs::FieldLaws::head_told, crate::proofs::FieldLaws::cut, crate::proofs::FieldLaws::headless, crate::proofs::FieldLaws::whole))]
+pub fn read_field(slice: &[u8], at: usize, tag: u8, n: usize) -> Option<(u64, usize)>
     requires { n ≤ 8 }
     ensures { result ≡ field_at slice.now at tag n }
 {
-    let Head::Of(found, length) = read_head(slice, at) else {
-        return Field::Bad;
-    };
+    let (found, length) = read_head(slice, at)?;
     if slice.len() - at < 3 + n {
-        return Field::Bad;
+        return None;
     }
     if (found == tag) & (length == n) {
-        let next = at + 3 + n;
-        Field::Value(number(slice, at + 3, n), next)
+        Some((number(slice, at + 3, n), at + 3 + n))
     } else {
-        Field::Bad
+        None
     }
 }
 

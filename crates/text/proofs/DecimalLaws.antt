@@ -55,7 +55,7 @@ module _ (P : ℕ → Type 0) (one : (n : ℕ) → n < 10 → P n) (rest : (n : 
       go (yes e) f = one n (ltb-true n 10 e)
       go (no e) f = let l : 10 ≤ n = ltb-false n 10 e in rest n l (f (omega arith))
 
-  by_digits : (n : ℕ) → P n
+  pub by_digits : (n : ℕ) → P n
   by_digits n = by_digits_below (suc n) n (omega arith)
 
 -- A number has a digit.

@@ -1,43 +1,38 @@
 -- The laws of a report's text: docs/RULES.md, "Trace program".
-use Prim.Native.Nat.{ℕ, suc, ◌+◌, ◌/◌, ◌%◌, ◌^◌, ◌≤◌, ◌<◌}
+use Prim.Native.Nat.{ℕ, suc, ◌+◌, ◌%◌, ◌^◌, ◌≤◌, ◌<◌}
+use native.Mathlib.Nat.{zero-add}
 use native.Mathlib.Omega.{arith}
-use mathlib.Core.Path.{◌≡◌, refl, ap, subst, ◌∙◌}
-use mathlib.Core.Bool.{true, false}
+use mathlib.Core.Path.{◌≡◌, sym, ap, ◌∙◌}
 use mathlib.Core.List.{List, [], ◌∷◌, ◌++◌}
-use lib.Dec.{T}
-use lib.IntN.{ℤ, pos, negsuc, nat_abs}
-use lib.Signed.{lt_z}
+use lib.IntN.{ℤ, pos, negsuc}
 use lib.ListN.{length, length-append}
-use borrow.Author.Tests.{ltb-true}
+use lib.Seq.{length-sets}
 use mir.Syntax.{w64}
-use mir.Val.{SFits}
-use Rattle.integers.proofs.Balance.{abs_is}
-use Rattle.integers.proofs.Machine.{i64_fits, no_pos, abs_nonneg}
+use mir.Val.{SFits, to_z, of_z}
+use Rattle.std.specs.Fmt.{signed_decimal}
+use Rattle.std.specs.Fmt as Fmt
+use Rattle.std.proofs.lemmas.Fmt.{decimal_digit, decimal_step}
+use Rattle.integers.proofs.Machine.{i64_fits, back}
 use Rattle.tagged.specs.Store.{Puts}
 use Rattle.tagged.proofs.StoreLaws.{puts_then}
-use Rattle.tagged.proofs.TwosLaws.{short, below, short_above, short_is}
-use Rattle.text.specs.Text.{FEED, MINUS, ZERO, samples_label, position_label, doubles_label, decimal, numeral, line_of, text_of}
+use Rattle.text.specs.Text.{FEED, MINUS, ZERO, samples_label, position_label, doubles_label, decimal, numeral, line_of, text_of, Writes}
 use Rattle.text.specs.declared.report.Report.{Report}
-use Rattle.text.proofs.DecimalLaws.{decimal_some, decimal_one, decimal_more, decimal_length}
+use Rattle.text.proofs.DecimalLaws.{by_digits, decimal_one, decimal_more, decimal_length}
 
 -- ---- a number's digits
 
--- A number below ten is put as one byte.
-pub puts_one : {b d : List ℕ} {at r : ℕ} (n x : ℕ) → n < 10 → x ≡ ZERO + n → Puts (x ∷ []) b at d r → Puts (decimal n) b at d r
-puts_one n x h e p = rw (decimal_one n h, ← e) p
+-- The text of a number is its digits.
+pub printed : (n : ℕ) → n < 2 ^ 64 → Fmt.decimal n ≡ decimal n
+printed = by_digits (λ n. n < 2 ^ 64 → Fmt.decimal n ≡ decimal n)
+    (λ n h k. decimal_digit n h ∙ sym (decimal_one n h))
+    (λ n h f k.
+    decimal_step n h k ∙ ap (λ (ds : List ℕ). ds ++ ((ZERO + n % 10) ∷ [])) (f (omega arith)) ∙ sym (decimal_more n h))
 
--- Any other, as the digits of its tenth part and one byte more.
-pub puts_more : {b m d : List ℕ} {at j r : ℕ} (n x : ℕ) → 10 ≤ n → x ≡ ZERO + n % 10 →
-    Puts (decimal (n / 10)) b at m j → Puts (x ∷ []) m j d r → Puts (decimal n) b at d r
-puts_more n x h e p q = rw (decimal_more n h, ← e) (puts_then p q)
-
--- Where a number has room, its tenth part has, with a byte to spare.
-pub tenth_fits : (n at room : ℕ) → 10 ≤ n → at + length (decimal n) ≤ room → at + length (decimal (n / 10)) < room
-tenth_fits n at room h l = let e = ap length (decimal_more n h) ∙ length-append (decimal (n / 10)) ((ZERO + n % 10) ∷ []) in omega arith
-
--- A place with room for a number has room for a byte.
-pub digit_fits : (n at room : ℕ) → at + length (decimal n) ≤ room → at < room
-digit_fits n at room l = omega (arith, decimal_some n)
+-- The text of a position is its numeral.
+pub printed_signed : (z : ℤ) → SFits w64 z → signed_decimal z ≡ numeral z
+unfolding numeral
+printed_signed (pos n) f = let h = i64_fits f in printed n (omega arith)
+printed_signed (negsuc n) f = let h = i64_fits f in ap (λ (ds : List ℕ). MINUS ∷ ds) (printed (suc n) (omega arith))
 
 -- ---- a line
 
@@ -51,38 +46,6 @@ pub puts_line : {label ds b m l d : List ℕ} {at i j r : ℕ} →
     Puts label b at m i → Puts ds m i l j → Puts (FEED ∷ []) l j d r → Puts (line_of label ds) b at d r
 unfolding line_of
 puts_line p q f = puts_then p (puts_then q f)
-
--- ---- a position
-
-pub numeral_below : (z : ℤ) → lt_z z (pos 0) ≡ true → numeral z ≡ MINUS ∷ decimal (nat_abs z)
-unfolding numeral
-numeral_below (pos n) e = absurd (omega (arith, ltb-true n 0 e))
-numeral_below (negsuc n) e = refl
-
-pub numeral_above : (z : ℤ) → lt_z z (pos 0) ≡ false → numeral z ≡ decimal (nat_abs z)
-unfolding numeral
-numeral_above (pos n) e = refl
-numeral_above (negsuc n) e = absurd (subst T e tt)
-
--- A position below zero stands behind a -.
-pub position_below : (z : ℤ) → lt_z z (pos 0) ≡ true →
-    line_of position_label (numeral z) ≡ line_of (position_label ++ (MINUS ∷ [])) (decimal (nat_abs z))
-unfolding line_of
-position_below z e = rw (numeral_below z e)
-
--- Any other does not.
-pub position_above : (z : ℤ) → lt_z z (pos 0) ≡ false → line_of position_label (numeral z) ≡ line_of position_label (decimal (nat_abs z))
-position_above z e = ap (line_of position_label) (numeral_above z e)
-
--- The size of a number z below zero is one more than that of -1 - z, and the machine holds both.
-module _ (z : ℤ) (f : SFits w64 z) (h : lt_z z (pos 0) ≡ true) where
-  pub size_is : nat_abs (short z f h) + 1 ≡ nat_abs z
-  size_is =
-      let n = no_pos z (omega (arith, below z f h)) in
-      omega (arith, short_is z f h, abs_nonneg (short z f h) (short_above z f h), abs_is z, n)
-
-  pub size_fits : nat_abs (short z f h) + 1 < 2 ^ 64
-  size_fits = omega (arith, short_is z f h, abs_nonneg (short z f h) (short_above z f h), i64_fits f)
 
 -- ---- the room of a report
 
@@ -102,10 +65,43 @@ position_room (pos n) f = let h = i64_fits f in omega (arith, line_room position
 position_room (negsuc n) f =
     let h = i64_fits f in omega (arith, line_length position_label (MINUS ∷ decimal (suc n)), decimal_length 18 (suc n) (omega arith))
 
--- The three lines in a row are the report's text.
-pub puts_text : (r : Report) {b m l d : List ℕ} {i j n : ℕ} →
-    Puts (line_of samples_label (decimal r.samples)) b 0 m i → Puts (line_of position_label (numeral r.position)) m i l j →
-    Puts (line_of doubles_label (decimal r.doubles)) l j d n →
-    Puts (text_of r) b 0 d n
+-- Each line as it is printed takes no more.
+pub samples_fit : (n : ℕ) → n < 2 ^ 64 → length (line_of samples_label (Fmt.decimal n)) ≤ 29
+samples_fit n h = rw (printed n h) (samples_room n h)
+
+pub position_fits : (z : ℤ) → SFits w64 z → length (line_of position_label (signed_decimal z)) ≤ 30
+position_fits z f = rw (printed_signed z f) (position_room z f)
+
+pub doubles_fit : (n : ℕ) → n < 2 ^ 16 → length (line_of doubles_label (Fmt.decimal n)) ≤ 14
+doubles_fit n h = rw (printed n (omega arith)) (doubles_room n h)
+
+-- All three of them.
+pub ruleset lines_fit = (samples_fit, position_fits, doubles_fit)
+
+-- Three printed lines in a row are the report's text, the position as the machine reads it back.
+pub puts_text : (r : Report) {b m l d : List ℕ} {i j n : ℕ} → r.samples < 2 ^ 64 → SFits w64 r.position → r.doubles < 2 ^ 16 → 73 ≤ length b →
+    Puts (line_of samples_label (Fmt.decimal r.samples)) b 0 m i →
+    Puts (line_of position_label (signed_decimal (to_z w64 (of_z w64 r.position)))) m i l j →
+    Puts (line_of doubles_label (Fmt.decimal r.doubles)) l j d n →
+    Writes r b d n
 unfolding text_of
-puts_text r p q f = puts_then p (puts_then q f)
+puts_text r {b} s p k room x y z =
+    let x = rw (printed r.samples s) at x in
+    let y = rw (back p, printed_signed r.position p) at y in
+    let z = rw (printed r.doubles (omega arith)) at z in
+    let w = puts_then x (puts_then y z) in
+    record {
+      buffer = w.buffer;
+      number = w.behind ∙ zero-add _;
+      fits = omega (
+        arith,
+        samples_room r.samples s,
+        position_room r.position p,
+        doubles_room r.doubles k,
+        x.behind,
+        y.behind,
+        z.behind,
+        ap length w.buffer,
+        length-sets b 0 (text_of r),
+      );
+    }

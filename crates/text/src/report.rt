@@ -1,9 +1,7 @@
 // What a trace has counted, and its three lines of text.
-ghost use Rattle.std.specs.Prelude.{◌+◌, ◌≤◌, length};
-ghost use Rattle.text.specs.Text.{numeral, line_of, position_label, Writes};
-ghost use Rattle.tagged.specs.Store.{Puts};
+ghost use Rattle.text.specs.Text.{Writes};
 
-use crate::put::{put_line, size};
+use crate::put::put_line;
 
 // The bytes of the longest report.
 pub const ROOM: usize = 73;
@@ -16,24 +14,14 @@ pub struct Report {
     pub doubles: u16,
 }
 
-// The line of a position, with a - below zero.
-fn put_position(out: &mut [u8], at: usize, position: i64) -> usize
-    requires { at + length (line_of position_label (numeral position)) ≤ length out.old }
-    ensures { Puts (line_of position_label (numeral position)) out.old at out.new result }
-{
-    if position < 0 {
-        return put_line(out, at, b"position -", size(position));
-    }
-    put_line(out, at, b"position ", size(position))
-}
-
 impl Report {
     // The three lines at the front of a buffer; answers how many bytes they are.
+    #[tactic(auto, using(crate::proofs::TextLaws::lines_fit))]
     pub fn write(self, out: &mut [u8; ROOM]) -> usize
         ensures { Writes self out.old out.new result }
     {
         let position_at = put_line(out, 0, b"samples ", self.samples);
-        let doubles_at = put_position(out, position_at, self.position);
-        put_line(out, doubles_at, b"doubles ", self.doubles as u64)
+        let doubles_at = put_line(out, position_at, b"position ", self.position);
+        put_line(out, doubles_at, b"doubles ", self.doubles)
     }
 }

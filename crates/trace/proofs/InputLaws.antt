@@ -18,9 +18,8 @@ use Rattle.text.specs.declared.report.Report.{Report}
 use Rattle.trace_axis.specs.Trace.{LIMIT, started, fed_with, report_of, input_report}
 use Rattle.trace_axis.specs.declared.trace.Trace.{Trace}
 use Rattle.trace_axis.proofs.TraceLaws.{cut, fed_none, rule, limit_rule}
-use Rattle.trace.specs.Input.{found, Found, Failed, room_for, ReadOnce}
+use Rattle.trace.specs.Input.{Turn, turn_of, answered, AllRead, found, Found, Failed, room_for, ReadOnce}
 use Rattle.trace.specs.Input.{Reads, none, more, Ends, last, full, InputRead, InputTaken, Reported, ReportLines}
-use Rattle.trace.specs.declared.Turn.{Turn}
 
 -- ---- the bytes that a read found
 
@@ -184,6 +183,18 @@ taken_full {old} {new} {x} s h = record {
   all = λ g l. absurd (omega (arith, (reads_taken s.reads).0));
 }
 
+-- What is answered where a read fails, where the input ends, and where no further byte would be looked at.
+module _ {old mid new : Option (List ℕ)} {x y : Trace} {b d : List ℕ} (s : SoFar old mid x) where
+  pub all_failed : {e : Error} → ReadOnce x b d (turn_of y (Err e)) → Consumes mid new [] → AllRead old new (Err e)
+  all_failed {e} o q = record { turn = turn_of y (Err e); taken = taken_last s o (λ f. f) q (λ h. absurd (let none : ⊥ = cc in none)); answer = refl }
+
+  pub all_ended : {n : ℕ} → n ≡ 0 → ReadOnce x b d (turn_of y (Ok n)) → Consumes mid new (take n d) → (◌≡◌ {A = Result ℕ Error} (Ok n) (Ok 0) → IsAtEnd new) →
+      AllRead old new (Ok y)
+  all_ended {n} z o q e = record { turn = turn_of y (Ok n); taken = taken_last s o (λ f. omega arith) q e; answer = refl }
+
+pub all_full : {old new : Option (List ℕ)} {x : Trace} → SoFar old new x → LIMIT ≤ x.samples → AllRead old new (Ok x)
+all_full s h = record { turn = _; taken = taken_full s h; answer = refl }
+
 -- Where the bytes that the reader had are known, the report of those that were read is that of all of them.
 pub taken_report : (old new : Option (List ℕ)) {t : Turn} (i : InputTaken old new t) → (Failed t.got → ⊥) →
     IfSome old (λ xs. input_report i.input.bytes ≡ input_report xs)
@@ -203,42 +214,47 @@ taken_report (Some xs) (Some ys) {t} i g = go i.input.bytes i.taken (i.all g) (l
 -- ---- the report
 
 -- A text that was written stands at the front of the buffer.
-writes_front : {r : Report} {b d : List ℕ} {n : ℕ} → Writes r b d n → take n d ≡ text_of r
+pub writes_front : {r : Report} {b d : List ℕ} {n : ℕ} → Writes r b d n → take n d ≡ text_of r
 writes_front {r} {b} {d} {n} w =
     let l : length d ≡ length b = ap length w.buffer ∙ length-sets b 0 (text_of r) in
     let e : sets b 0 (text_of r) ≡ text_of r ++ drop (0 + length (text_of r)) b =
     sets-eq (text_of r) b 0 (omega (arith, w.number, w.fits)) in
     ap (take n) (w.buffer ∙ e) ∙ take_at (text_of r) _ n (sym w.number)
 
--- The report of what was read, where no read failed.
-pub reported : {t : Turn} {r : Report} {b d : List ℕ} {n : ℕ} → InputRead t → (Failed t.got → ⊥) → r ≡ report_of t.trace →
-    Writes r b d n → Reported b d (Ok n)
-reported {t} {r} {b} {d} {n} i good e w = record {
-  turn = t;
-  input = i;
-  writes = λ _. (n, refl, subst (λ (x : Report). Writes x b d n) (e ∙ read_report i) w);
-  failed = λ f. absurd (good f);
-}
+-- An answer that is a value is that value, and no read failed.
+answered_ok : {A : Type 0} {x y : A} (got : Result ℕ Error) → Ok x ≡ answered y got → (x ≡ y) × (Failed got → ⊥)
+answered_ok (Ok n) e = (cc, λ f. f)
+answered_ok (Err z) e = absurd (let none : ⊥ = cc in none)
+
+-- What is answered where no read failed.
+answered_good : {A : Type 0} (x : A) (got : Result ℕ Error) → (Failed got → ⊥) → Ok x ≡ answered x got
+answered_good x (Ok n) g = refl
+answered_good x (Err e) g = absurd (g tt)
+
+-- The report of the trace of all of the input is the rules' report of the bytes that were read.
+pub reported : {old new : Option (List ℕ)} {x : Trace} → AllRead old new (Ok x) → Reported (Ok (report_of x))
+reported a =
+    let q = answered_ok a.turn.got a.answer in
+    record {
+      turn = a.turn;
+      input = a.taken.input;
+      answer = ap Ok (ap report_of q.0 ∙ read_report a.taken.input) ∙ answered_good (input_report a.taken.input.bytes) a.turn.got q.1;
+    }
 
 -- And where the bytes that the reader had are known, it is the report of all of them.
-pub reported_whole : (old new : Option (List ℕ)) {t : Turn} {r : Report} {b d : List ℕ} {n : ℕ} → InputTaken old new t →
-    (Failed t.got → ⊥) → r ≡ report_of t.trace → Writes r b d n → IfSome old (λ xs. take n d ≡ text_of (input_report xs))
-reported_whole None new i good e w = tt
-reported_whole (Some xs) new i good e w = writes_front w ∙ ap text_of (e ∙ read_report i.input ∙ taken_report (Some xs) new i good)
+pub reported_whole : (old new : Option (List ℕ)) {x : Trace} → AllRead old new (Ok x) → IfSome old (λ xs. report_of x ≡ input_report xs)
+reported_whole None new a = tt
+reported_whole (Some xs) new a =
+    let q = answered_ok a.turn.got a.answer in
+    ap report_of q.0 ∙ read_report a.taken.input ∙ taken_report (Some xs) new a.taken q.1
 
--- A number at the end gives the report of the bytes that were read, an error nothing.
-pub report_says : {b d : List ℕ} {n : Result ℕ Error} (r : Reported b d n) →
-    ((k : ℕ) → r.turn.got ≡ Ok k → (m : ℕ) × (n ≡ Ok m) × (take m d ≡ text_of (input_report r.input.bytes)))
-    × ((e : Error) → r.turn.got ≡ Err e → (n ≡ Err e) × (d ≡ b))
-report_says r = (
-  λ k e. let w = r.writes (λ f. rw e at f) in (w.0, w.1, writes_front w.2),
-  λ x e. let w = r.failed (rw e tt) in (w.0 ∙ e, w.1),
-)
+-- A number at the end gives the report of the bytes that were read, an error that error.
+pub report_says : {r : Result Report Error} (p : Reported r) →
+    ((k : ℕ) → p.turn.got ≡ Ok k → r ≡ Ok (input_report p.input.bytes)) × ((e : Error) → p.turn.got ≡ Err e → r ≡ Err e)
+report_says p = (λ k e. rw e at p.answer, λ x e. rw e at p.answer)
 
--- An answer that is a number is the report of the input, in so many bytes.
-pub report_lines : (b d : List ℕ) (n : ℕ) → Reported b d (Ok n) → (n ≤ length d) × ReportLines (take n d)
-report_lines b d n t =
-    let good : Failed t.turn.got → ⊥ = λ f. subst (λ (g : Result ℕ Error). Failed g) (sym (t.failed f).0) f in
-    let w = t.writes good in
-    let e : n ≡ w.0 = cc in
-    rw e (w.2.fits, record { turn = t.turn; input = t.input; good = good; text = writes_front w.2 })
+-- The lines of a report that was answered are those of the input's report.
+pub report_lines : {r : Report} → Reported (Ok r) → ReportLines (text_of r)
+report_lines p =
+    let q = answered_ok p.turn.got p.answer in
+    record { turn = p.turn; input = p.input; good = q.1; text = ap text_of q.0 }

@@ -4,12 +4,22 @@
 use Rattle.std.specs.Prelude.{ℕ, ◌-◌, ◌≤◌, ◌<◌, min, ◌≡◌, List, [], ◌++◌, Option, Result, Ok, Err, IfOk, length, take, drop}
 use Rattle.std.specs.Io.KnownBytes.{Consumes, IsAtEnd}
 use Rattle.std.specs.declared.io.Error.{Error}
-use Rattle.text.specs.Text.{text_of, Writes}
+use Rattle.text.specs.Text.{text_of}
+use Rattle.text.specs.declared.report.Report.{Report}
 use Rattle.trace_axis.specs.Trace.{LIMIT, started, fed_with, input_report}
 use Rattle.trace_axis.specs.declared.trace.Trace.{Trace}
-use Rattle.trace.specs.declared.Turn.{Turn}
 
 -- ---- one read
+
+-- The trace after a read, and what the read answered: how many bytes it put at the front of what it was lent, 0 at the end of the input, or the
+-- error with which it failed.
+pub record Turn : Type 0 where
+  pub trace : Trace
+  pub got : Result ℕ Error
+
+-- A trace after a read, and the read's answer.
+abbrev pub turn_of : Trace → Result ℕ Error → Turn
+turn_of x r = record { trace = x; got = r }
 
 -- The bytes that a read found, by its answer and the buffer as it is after the read: the first so many; none at the end of the input or
 -- where the read failed.
@@ -67,15 +77,24 @@ pub record InputTaken (old new : Option (List ℕ)) (t : Turn) : Type 0 where
   pub taken : Consumes old new input.bytes
   pub all : (Failed t.got → ⊥) → length input.bytes < LIMIT → IsAtEnd new
 
+-- What is answered of the whole input, by the last read's answer: a value, or the error with which that read failed.
+abbrev pub answered : {A : Type 0} → A → Result ℕ Error → Result A Error
+answered x (Ok n) = Ok x
+answered x (Err e) = Err e
+
+-- What reading all of the input promises, of what the reader had left and of the answer: the trace that was fed it.
+pub record AllRead (old new : Option (List ℕ)) (r : Result Trace Error) : Type 0 where
+  pub turn : Turn
+  pub taken : InputTaken old new turn
+  pub answer : r ≡ answered turn.trace turn.got
+
 -- ---- the report
 
--- What reporting the input promises, of a buffer: the text of its report and no other byte; where a read failed, the error of that read and
--- an untouched buffer.
-pub record Reported (b d : List ℕ) (r : Result ℕ Error) : Type 0 where
+-- What reporting the input promises: its report; where a read failed, the error of that read.
+pub record Reported (r : Result Report Error) : Type 0 where
   pub turn : Turn
   pub input : InputRead turn
-  pub writes : (Failed turn.got → ⊥) → (n : ℕ) × (r ≡ Ok n) × Writes (input_report input.bytes) b d n
-  pub failed : Failed turn.got → (r ≡ turn.got) × (d ≡ b)
+  pub answer : r ≡ answered (input_report input.bytes) turn.got
 
 -- Lines that are the report of an input, all of it, of which no read failed.
 pub record ReportLines (l : List ℕ) : Type 0 where

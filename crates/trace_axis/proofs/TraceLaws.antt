@@ -1,12 +1,12 @@
 -- The laws of a trace: docs/RULES.md, "Trace program".
+use Rattle.std.specs.Prelude.{Ok}
 use Prim.Native.Nat.{ℕ, zero, suc, ◌+◌, ◌-◌, ◌/◌, ◌%◌, ◌^◌, ◌≤◌, ◌<◌, min}
 use native.Mathlib.Nat.{zero-add, add-zero, add_assoc}
-use native.Mathlib.Numerals.{add-one}
 use native.Mathlib.Omega.{arith}
 use mathlib.Core.Path.{◌≡◌, refl, sym, ap, ◌∙◌}
 use mathlib.Core.List.{List, [], ◌∷◌, ◌++◌, map}
-use lib.ListN.{length, take, get_or, length-append, length-take}
-use lib.Seq.{take-nil, take-suc, take_all}
+use lib.ListN.{length, take, length-append, length-take}
+use lib.Seq.{take-nil, take_all}
 use lib.Dec.{lit<}
 use lib.IntN.{pos}
 use Rattle.position.specs.Position.{position_of}
@@ -24,7 +24,6 @@ use Rattle.row_sample.proofs.SampleLaws.{status_after}
 use Rattle.row_view.specs.View.{view_of}
 use Rattle.row_calls.specs.Calls.{config_of, setup_row}
 use Rattle.row_view.specs.View.{view_row}
-use Rattle.row_view.specs.declared.answer.Viewed.TheVariants.{Shows}
 use Rattle.table_rows.specs.Table.{axes_in, row_at, set_row}
 use Rattle.table_rows.specs.Located.{located}
 use Rattle.table_port.specs.Port.{nibble, sampled_to, sampled_table}
@@ -57,10 +56,6 @@ unfolding traced_by
 traced_append t [] b = refl
 traced_append t (x ∷ a) b = traced_append (sampled_table t x) a b
 
--- The first bytes, and one more.
-pub take_next : (bs : List ℕ) (i : ℕ) → i < length bs → take i bs ++ (get_or bs i 0 ∷ []) ≡ take (i + 1) bs
-take_next bs i h = rw (add-one, take-suc bs i 0)
-
 -- Nothing fed is nothing changed.
 pub fed_none : (x : Trace) → fed_with x [] ≡ x
 unfolding fed_with traced_by
@@ -73,11 +68,6 @@ unfolding fed_with traced_by
 fed_sample x b t h e =
     let q : take (LIMIT - x.samples) (b ∷ []) ≡ b ∷ [] = take_all (LIMIT - x.samples) (b ∷ []) (omega arith) in
     rw (q, e)
-
--- Below the limit every read gets on.
-pub fed_grows : (x : Trace) (bs : List ℕ) → x.samples < LIMIT → 0 < length bs → x.samples < (fed_with x bs).samples
-unfolding fed_with
-fed_grows x bs h some = omega (arith, length-take (LIMIT - x.samples) bs)
 
 -- ---- from a table's words to its row
 
@@ -123,7 +113,7 @@ unfolding started table_after located setup_row good_config axes_in most_axes ro
 start_length = refl
 
 -- A view of a table of one sampled axis shows that axis.
-view_one : (t : List ℕ) (r : Row) → length t ≡ 4 → row_at t 0 ≡ r → status_of r ≡ Sampled → viewed_in t 0 ≡ Shows (view_of (axis_of r))
+view_one : (t : List ℕ) (r : Row) → length t ≡ 4 → row_at t 0 ≡ r → status_of r ≡ Sampled → viewed_in t 0 ≡ Ok (view_of (axis_of r))
 unfolding axes_in most_axes view_row
 view_one t r l e s = let h : 0 < axes_in (length t) = rw l (lit< tt) in rw (sym (found_at t 0 h), e, s)
 

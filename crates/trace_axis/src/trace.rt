@@ -3,7 +3,6 @@ ghost use Rattle.std.specs.Prelude.{◌≡◌, [], ◌∷◌};
 ghost use Rattle.trace_axis.specs.Trace.{started, fed_with, report_of};
 
 use axis::kind::Kind;
-use row_view::answer::Viewed;
 use table::look::view;
 use table_change::setup::setup;
 use table_port::sample;
@@ -21,40 +20,32 @@ pub struct Trace {
 
 impl Trace {
     // One x4 axis at depth 1 with no counts per turn, before its first byte.
+    #[tactic(auto, unfolding(crate::specs::Trace::started))]
     pub fn start() -> Trace
         ensures { result ≡ started }
     {
         let mut words = [0u64; 4];
-        setup(&mut words, 0, Kind::X4 as u64, 1, 0, 0);
+        let _ = setup(&mut words, 0, u64::from(Kind::X4), 1, 0, 0);
         Trace { words, samples: 0 }
     }
 
-    // The trace after one byte more.
-    fn taken(self, byte: u8) -> Trace
+    // The trace after one byte more; past the limit it is not looked at.
+    #[tactic(auto, using(crate::proofs::TraceLaws::past_limit, crate::proofs::TraceLaws::fed_sample))]
+    fn taken(mut self, byte: u8) -> Trace
         ensures { result ≡ fed_with self (byte ∷ []) }
     {
-        if LIMIT <= self.samples {
-            return self;
+        if self.samples < LIMIT {
+            let _ = sample(&mut self.words, u64::from(byte));
+            self.samples += 1;
         }
-        let mut words = self.words;
-        sample(&mut words, byte as u64);
-        Trace {
-            words,
-            samples: self.samples + 1,
-        }
+        self
     }
 
     // The trace after bytes, oldest first; those past the limit are not looked at.
     pub fn fed(self, bytes: &[u8]) -> Trace
         ensures { result ≡ fed_with self bytes.now }
     {
-        let mut trace = self;
-        let mut i = 0;
-        while i < bytes.len() {
-            trace = trace.taken(bytes[i]);
-            i += 1;
-        }
-        trace
+        bytes.iter().fold(self, |trace, byte| trace.taken(*byte))
     }
 
     // How many bytes were looked at, and the axis's position and doubles.
@@ -62,18 +53,14 @@ impl Trace {
     pub fn report(self) -> Report
         ensures { result ≡ report_of self }
     {
-        let words = self.words;
-        match view(&words, 0) {
-            Viewed::Shows(v) => Report {
-                samples: self.samples,
-                position: v.position,
-                doubles: v.doubles,
-            },
-            Viewed::Refused(_) => Report {
-                samples: self.samples,
-                position: 0,
-                doubles: 0,
-            },
+        let (position, doubles) = match view(&self.words, 0) {
+            Ok(v) => (v.position, v.doubles),
+            Err(_) => (0, 0),
+        };
+        Report {
+            samples: self.samples,
+            position,
+            doubles,
         }
     }
 }

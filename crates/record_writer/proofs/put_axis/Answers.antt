@@ -19,9 +19,10 @@ put_field-requires c =
 
 pub returns-then-is_counter : goal.returns-then-is_counter
 returns-then-is_counter c =
+    let e = c.from-setting.ensures in
     let f : SFits w64 c.args.saved.position = search rules in
-    puts_counter c.args.saved (c.bits_of.ensures ∙ ap (of_z w64) (back f)) (sym c.is_counter.ensures ∙ c.if-is_counter.true)
-    c.put_front-at.ensures c.put_field.ensures
+    puts_counter c.args.saved (c.bits_of.ensures ∙ ap (of_z w64) (back f)) (sym (rw e at c.is_counter.ensures) ∙ c.if-is_counter.true)
+    (rw e at c.put_front-at.ensures) (rw e at c.put_field.ensures)
 
 pub put_field-at-requires : goal.put_field-at-requires
 unfolding front_bytes field_bytes bytes_of
@@ -29,17 +30,18 @@ put_field-at-requires c =
     let p = c.put_front-at in
     omega (arith, p.auto.buf, p.ensures.behind, c.requires, length_bounds c.args.saved.config.kind)
 
-pub put_field-requires-2 : goal.put_field-requires-2
+pub put_field-requires-else-is_counter : goal.put_field-requires-else-is_counter
 unfolding front_bytes field_bytes bytes_of
-put_field-requires-2 c =
+put_field-requires-else-is_counter c =
     let p = c.put_front-at in
     let q = c.put_field-at in
     let e = sym c.is_counter.ensures ∙ c.if-is_counter.false in
-    let n : axis_length c.args.saved.config.kind ≡ 26 = rw e in
-    omega (arith, n, p.auto.buf, p.ensures.behind, q.auto.buf, q.ensures.behind)
+    let n : axis_length c.args.saved.config.kind ≡ 26 = rw (rw c.from-setting.ensures at e) in
+    omega (arith, n, c.requires, p.auto.buf, p.ensures.behind, q.auto.buf, q.ensures.behind)
 
-pub returns : goal.returns
-returns c =
+pub returns-else-is_counter : goal.returns-else-is_counter
+returns-else-is_counter c =
+    let e = c.from-setting.ensures in
     let f : SFits w64 c.args.saved.position = search rules in
-    puts_sampled c.args.saved (c.bits_of.ensures ∙ ap (of_z w64) (back f)) (sym c.is_counter.ensures ∙ c.if-is_counter.false)
-    c.put_front-at.ensures c.put_field-at.ensures c.put_field-2.ensures
+    puts_sampled c.args.saved (c.bits_of.ensures ∙ ap (of_z w64) (back f)) (sym (rw e at c.is_counter.ensures) ∙ c.if-is_counter.false)
+    (rw e at c.put_front-at.ensures) (rw e at c.put_field-at.ensures) (rw e at c.put_field-else-is_counter.ensures)

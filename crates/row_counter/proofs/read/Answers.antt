@@ -1,41 +1,42 @@
-use mathlib.Core.Path.{sym, ap, ◌∙◌}
-use mathlib.Core.Logic.{inr}
-use Rattle.axis.specs.Row.{row_of}
-use Rattle.axis.specs.declared.row.Axis.{Axis}
-use Rattle.axis_open.proofs.OpenLaws.{opened_narrow, opened_counter}
-use Rattle.row_calls.specs.declared.answer.Changed.TheVariants.{To}
-use Rattle.row_counter.specs.Reading.{read_axis, read_row, stored_row}
-use Rattle.row_calls.proofs.StatusLaws.{live_position, held_position}
-use Rattle.row_counter.proofs.ReadingLaws.{opened_reading, read_counter, read_in_range}
+use Rattle.std.specs.Prelude.{Ok, Err}
+use mathlib.Core.Path.{◌≡◌, refl, sym, ap, ◌∙◌}
+use Rattle.refusal.proofs.PassLaws.{passed_on}
+use Rattle.axis.specs.Row.{axis_of, row_of}
+use Rattle.row_calls.proofs.StatusLaws.{held_position}
+use Rattle.row_calls.proofs.InUseLaws.{counting_is, counting_stops}
+use Rattle.row_counter.specs.Reading.{read_axis, reading_of, reading_row, read_row, stored_row}
+use Rattle.row_counter.proofs.ReadingLaws.{counted_reading, read_in_range}
 use Rattle.row_counter.proofs.read.Goals as goal
 
-pub answer-said-requires : goal.answer-said-requires
-answer-said-requires c e =
-    let g = opened_counter c.args.r c.open-opened.result c.open-opened.ensures e in
-    rw g.1 (live_position c.args.r (inr g.0))
+pub returns-in_err-counter : goal.returns-in_err-counter
+unfolding reading_row read_row stored_row
+returns-in_err-counter c =
+    let p : c.from_residual.result ≡ Err c.in_err-counter.field-0.0 = passed_on c.from_residual.ensures.1 refl in
+    let k = counting_stops Err (reading_of c.args.reading (axis_of c.args.r)) c.args.r (sym c.counting.ensures ∙ c.in_err-counter.was) in
+    (rw p k, rw (p, ← k))
 
-pub stored-requires : goal.stored-requires
-stored-requires c =
-    let p = c.in-Number.position in
-    let e = sym (c.answer-said.ensures ∙ opened_reading c.args.reading c.args.r c.open-opened.result c.open-opened.ensures)
-    ∙ c.in-Number.is in
-    let i = read_in_range c.args.reading c.args.r p e in
-    (opened_narrow c.args.r _ c.open-opened.ensures.1, rw (held_position p i) i)
-
-pub returns-in-Refused : goal.returns-in-Refused
+pub returns-in_err-position : goal.returns-in_err-position
 unfolding read_row stored_row
-returns-in-Refused c =
-    let e = sym (c.answer-said.ensures ∙ opened_reading c.args.reading c.args.r c.open-opened.result c.open-opened.ensures)
-    ∙ c.in-Refused.is in
-    (sym e, rw e)
+returns-in_err-position c =
+    let x = c.args.reading in
+    let p : c.from_residual-in_err-position.result ≡ Err c.in_err-position.field-0.0 = passed_on c.from_residual-in_err-position.ensures.1 refl in
+    let k = counted_reading x c.args.r (sym c.counting.ensures ∙ c.in_ok-counter.was) c.widened.ensures ∙ c.in_err-position.was in
+    (rw (p, k), rw (p, k))
 
-pub returns-in-Number : goal.returns-in-Number
+pub moved-requires : goal.moved-requires
+moved-requires c =
+    let x = c.args.reading in
+    let p = c.in_ok-position.position in
+    let k = counted_reading x c.args.r (sym c.counting.ensures ∙ c.in_ok-counter.was) c.widened.ensures ∙ c.in_ok-position.was in
+    let i = read_in_range x c.args.r p k in
+    rw (held_position p i) i
+
+pub returns : goal.returns
 unfolding read_row stored_row
-returns-in-Number c =
-    let p = c.in-Number.position in
-    let e = sym (c.answer-said.ensures ∙ opened_reading c.args.reading c.args.r c.open-opened.result c.open-opened.ensures)
-    ∙ c.in-Number.is in
-    let i = read_in_range c.args.reading c.args.r p e in
-    let g = opened_counter c.args.r c.open-opened.result c.open-opened.ensures
-    (c.open-opened.ensures.0 ∙ (read_counter c.args.reading c.args.r p e).0) in
-    (sym e, rw e (ap To ((rw (held_position p i) at c.stored.ensures) ∙ ap (λ (x : Axis). row_of (read_axis p x)) g.1)))
+returns c =
+    let x = c.args.reading in
+    let p = c.in_ok-position.position in
+    let k = counted_reading x c.args.r (sym c.counting.ensures ∙ c.in_ok-counter.was) c.widened.ensures ∙ c.in_ok-position.was in
+    let h = held_position p (read_in_range x c.args.r p k) in
+    let g = counting_is c.args.r (sym c.counting.ensures ∙ c.in_ok-counter.was) in
+    (rw h (sym k), rw k (ap Ok (c.row.ensures ∙ ap row_of ((rw h at c.moved.ensures) ∙ ap (read_axis p) g.1))))

@@ -20,8 +20,8 @@ returns-then-is_sampled c =
     let g = sampled_opens b.r _ c.axis_in-axis.ensures (sym c.is_sampled.ensures ∙ c.if-is_sampled.true) in
     c.step_sampled.ensures ∙ ap (λ (a : Axis). packed (step_axis a (raw_of b.nibble))) g.1 ∙ sym (row_steps b.r b.nibble g.0)
 
-pub returns : goal.returns
-returns c =
+pub returns-else-is_sampled : goal.returns-else-is_sampled
+returns-else-is_sampled c =
     let b = c.args in
     rw (c.keep.ensures, c.is_broken.ensures)
     (sym (other_stays b.r b.nibble (sym c.is_sampled.ensures ∙ c.if-is_sampled.false)))

@@ -1,16 +1,17 @@
-use mathlib.Core.Path.{sym}
+use mathlib.Core.Path.{sym, ◌∙◌}
+use Rattle.refusal.proofs.PassLaws.{passed_on}
 use Rattle.record.proofs.RecordLaws.{accepted_within}
 use Rattle.row_saving.specs.Saving.{restore_row, restored_by}
 use Rattle.row_saving.proofs.restore.Goals as goal
 
 pub put_in-requires : goal.put_in-requires
-put_in-requires c = accepted_within _ _ (sym c.in-Accepted.ensures)
+put_in-requires c = accepted_within _ _ (sym c.read.ensures ∙ c.in_ok-saved.was)
 
-pub returns-in-Refused : goal.returns-in-Refused
+pub returns-in_err-saved : goal.returns-in_err-saved
 unfolding restore_row restored_by
-returns-in-Refused c = rw (sym c.in-Refused.ensures)
+returns-in_err-saved c = passed_on c.from_residual.ensures.1 (rw (sym c.read.ensures ∙ c.in_err-saved.was))
 
-pub returns-in-Accepted : goal.returns-in-Accepted
+pub returns : goal.returns
 unfolding restore_row restored_by
-returns-in-Accepted c =
-    rw (sym c.in-Accepted.ensures) c.put_in.ensures
+returns c =
+    rw (sym c.read.ensures ∙ c.in_ok-saved.was) c.put_in.ensures

@@ -1,36 +1,17 @@
+use Rattle.std.specs.Prelude.{Ok, Err}
 use mathlib.Core.Path.{sym, ap, ◌∙◌}
-use mathlib.Core.Logic.{inl, inr}
-use Rattle.row_view.specs.declared.answer.Viewed.TheVariants.{Shows}
-use Rattle.row_view.specs.View.{view_of}
-use Rattle.row_view.specs.View.{view_row}
-use Rattle.row_calls.proofs.StatusLaws.{live_position}
-use Rattle.axis_open.proofs.OpenLaws.{opened_sampled, opened_counter}
+use Rattle.refusal.proofs.PassLaws.{passed_on}
+use Rattle.axis.specs.declared.row.Axis.{Axis}
+use Rattle.row_calls.proofs.InUseLaws.{in_use_goes, in_use_stops}
+use Rattle.row_view.specs.View.{view_of, view_row}
 use Rattle.row_view.proofs.view.Goals as goal
 
-pub view_of-requires : goal.view_of-requires
-view_of-requires c =
-    let g = opened_sampled c.args.r c.open-opened.result c.open-opened.ensures c.in-Sampled.is in
-    rw g.1 (live_position c.args.r (inl g.0))
-
-pub view_of-requires-in-Counter : goal.view_of-requires-in-Counter
-view_of-requires-in-Counter c =
-    let g = opened_counter c.args.r c.open-opened.result c.open-opened.ensures c.in-Counter.is in
-    rw g.1 (live_position c.args.r (inr g.0))
-
-pub returns-in-Broken : goal.returns-in-Broken
+pub returns-in_err-in_use : goal.returns-in_err-in_use
 unfolding view_row
-returns-in-Broken c = rw (sym c.open-opened.ensures.0 ∙ c.in-Broken.is)
+returns-in_err-in_use c =
+    passed_on c.from_residual.ensures.1 (in_use_stops Err _ _ c.args.r (sym c.in_use.ensures ∙ c.in_err-in_use.was))
 
-pub returns-in-Empty : goal.returns-in-Empty
+pub returns : goal.returns
 unfolding view_row
-returns-in-Empty c = rw (sym c.open-opened.ensures.0 ∙ c.in-Empty.is)
-
-pub returns-in-Sampled : goal.returns-in-Sampled
-unfolding view_row
-returns-in-Sampled c =
-    rw (sym c.open-opened.ensures.0 ∙ c.in-Sampled.is) (ap Shows (c.view_of.ensures ∙ ap view_of c.open-opened.ensures.1))
-
-pub returns-in-Counter : goal.returns-in-Counter
-unfolding view_row
-returns-in-Counter c =
-    rw (sym c.open-opened.ensures.0 ∙ c.in-Counter.is) (ap Shows (c.view_of-in-Counter.ensures ∙ ap view_of c.open-opened.ensures.1))
+returns c =
+    ap Ok c.view_of.ensures ∙ in_use_goes Err (λ (a : Axis). Ok (view_of a)) c.args.r (sym c.in_use.ensures ∙ c.in_ok-in_use.was)

@@ -1,3 +1,4 @@
+use Rattle.std.specs.Prelude.{Ok}
 use mathlib.Core.Path.{◌≡◌, ap}
 use mathlib.Core.Bool.{Bool, ◌&&◌}
 use Prim.Native.Nat.{ℕ, ◌*◌, ◌^◌, ◌<◌}
@@ -9,7 +10,6 @@ use mir.Facts.{to_z_pos}
 use Rattle.integers.proofs.Balance.{abs_is}
 use Rattle.integers.proofs.Machine.{back, fits_size}
 use Rattle.speed.specs.Speed.{good_count, good_samples, good_rate, good_speed, speed_by_count}
-use Rattle.speed.specs.declared.Speed.TheVariants.{Of}
 use Rattle.speed.proofs.SpeedLaws.{Limits, limits, product_small}
 use Rattle.speed.proofs.by_count.Goals as goal
 
@@ -29,19 +29,6 @@ module _ {D : ℤ} {T F : ℕ} (known : Limits D T F) where
   fits : SFits w64 (D *ℤ pos (1000 * F))
   fits = fits_size _ (omega (arith, small, abs_is (D *ℤ pos (1000 * F))))
 
-pub returns-then-not-is_count-is_samples : goal.returns-then-not-is_count-is_samples
-unfolding speed_by_count
-returns-then-not-is_count-is_samples c =
-    rw (tested c.args.difference c.args.samples c.args.rate (rw (back c.ranges.difference) at c.is_count.ensures)
-    c.is_samples.ensures c.is_rate.ensures c.if-not-is_count-is_samples.true)
-
-pub overflow_mul-difference : goal.overflow_mul-difference
-overflow_mul-difference c =
-    let good = tested c.args.difference c.args.samples c.args.rate (rw (back c.ranges.difference) at c.is_count.ensures)
-    c.is_samples.ensures c.is_rate.ensures c.if-not-is_count-is_samples.false in
-    let k = limits _ _ _ good in
-    rw (back c.ranges.difference, read_f k) (fits k)
-
 pub divide-requires : goal.divide-requires
 divide-requires c =
     let good = tested c.args.difference c.args.samples c.args.rate (rw (back c.ranges.difference) at c.is_count.ensures)
@@ -55,4 +42,4 @@ returns c =
     let good = tested c.args.difference c.args.samples c.args.rate (rw (back c.ranges.difference) at c.is_count.ensures)
     c.is_samples.ensures c.is_rate.ensures c.if-not-is_count-is_samples.false in
     let k = limits _ _ _ good in
-    rw good (ap Of (rw (back c.ranges.difference, read_f k, back (fits k)) at c.divide.ensures))
+    rw good (ap Ok (rw (back c.ranges.difference, read_f k, back (fits k)) at c.divide.ensures))

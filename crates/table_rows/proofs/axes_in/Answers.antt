@@ -1,5 +1,5 @@
 use Rattle.axis.specs.Limit.{most_axes}
-use Rattle.table_rows.proofs.RowsLaws.{axes_held, axes_none}
+use Rattle.table_rows.proofs.LocatedLaws.{axes_held, axes_none}
 use Rattle.table_rows.proofs.axes_in.Goals as goal
 
 pub returns-then-len : goal.returns-then-len

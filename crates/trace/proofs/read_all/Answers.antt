@@ -1,51 +1,32 @@
 use native.Mathlib.Omega.{arith}
-use Prim.Native.Nat.{◌<◌}
 use mathlib.Core.List.{[]}
-use Rattle.trace.specs.Input.{none, Found}
-use Rattle.trace.proofs.InputLaws.{taken_none, taken_on, taken_last, taken_full, fewer_left}
+use Rattle.std.proofs.lemmas.Result.{err_from_is_err_and}
+use Rattle.std.specs.Prelude.{Ok}
+use Rattle.trace.specs.Input.{turn_of, none}
+use Rattle.trace.proofs.InputLaws.{taken_none, taken_on, fewer_left, all_failed, all_ended, all_full}
 use Rattle.trace.proofs.read_all.Goals as goal
 
 pub loop-trace-init : goal.loop-trace-init
-loop-trace-init g c = (omega arith, rw c.start-trace.ensures (record { bytes = []; reads = none; taken = taken_none _ }))
+loop-trace-init g c = rw c.start-trace.ensures (record { bytes = []; reads = none; taken = taken_none _ })
 
-pub returns-then-n-eq0-clause-read : goal.returns-then-n-eq0-clause-read
-returns-then-n-eq0-clause-read g c =
-    let r = c.read_once-turn in
-    let z : Found r.result.got → ⊥ = λ f. let h : 0 < c.in-Ok.n = rw c.in-Ok.is at f in omega arith in
-    (taken_last c.loop-trace.invariant.1 r.ensures.read z r.ensures.taken r.ensures.end).input
+pub returns-in_err-read_once : goal.returns-in_err-read_once
+returns-in_err-read_once g c =
+    let p = err_from_is_err_and c.from_residual.result c.from_residual.ensures.1 in
+    let r = c.in_err-read_once.ensures in
+    rw (p.1, p.2) (all_failed c.loop-trace.invariant r.read r.taken)
 
-pub returns-then-n-eq0-clause-taken : goal.returns-then-n-eq0-clause-taken
-returns-then-n-eq0-clause-taken g c =
-    let r = c.read_once-turn in
-    let z : Found r.result.got → ⊥ = λ f. let h : 0 < c.in-Ok.n = rw c.in-Ok.is at f in omega arith in
-    taken_last c.loop-trace.invariant.1 r.ensures.read z r.ensures.taken r.ensures.end
-
-pub returns-in-Err-clause-read : goal.returns-in-Err-clause-read
-returns-in-Err-clause-read g c =
-    let r = c.read_once-turn in
-    let z : Found r.result.got → ⊥ = λ f. rw c.in-Err.is at f in
-    (taken_last c.loop-trace.invariant.1 r.ensures.read z r.ensures.taken r.ensures.end).input
-
-pub returns-in-Err-clause-taken : goal.returns-in-Err-clause-taken
-returns-in-Err-clause-taken g c =
-    let r = c.read_once-turn in
-    let z : Found r.result.got → ⊥ = λ f. rw c.in-Err.is at f in
-    taken_last c.loop-trace.invariant.1 r.ensures.read z r.ensures.taken r.ensures.end
+pub returns-then-branch-eq0 : goal.returns-then-branch-eq0
+returns-then-branch-eq0 g c =
+    let r = c.in_ok-read_once.ensures in
+    all_ended c.loop-trace.invariant c.if-branch-eq0.true r.read r.taken r.end
 
 pub loop-trace-smaller : goal.loop-trace-smaller
-loop-trace-smaller g c =
-    let r = c.read_once-turn in
-    let f : Found r.result.got = rw c.in-Ok.is (omega arith) in
-    fewer_left _ _ _ r.result r.ensures.read f
+loop-trace-smaller g c = fewer_left _ _ _ _ c.in_ok-read_once.ensures.read (omega arith)
 
 pub loop-trace-preserved : goal.loop-trace-preserved
 loop-trace-preserved g c =
-    let r = c.read_once-turn in
-    let f : Found r.result.got = rw c.in-Ok.is (omega arith) in
-    (omega (arith, r.auto.buf), taken_on c.loop-trace.invariant.1 r.ensures.read f r.ensures.taken)
+    let r = c.in_ok-read_once.ensures in
+    taken_on {t = turn_of c.read_once.new.trace (Ok c.in_ok-read_once.field-0)} c.loop-trace.invariant r.read (omega arith) r.taken
 
-pub returns-clause-read : goal.returns-clause-read
-returns-clause-read g c = (taken_full c.loop-trace.invariant.1 c.loop-trace-test.false).input
-
-pub returns-clause-taken : goal.returns-clause-taken
-returns-clause-taken g c = taken_full c.loop-trace.invariant.1 c.loop-trace-test.false
+pub returns-after-loop-trace : goal.returns-after-loop-trace
+returns-after-loop-trace g c = all_full c.loop-trace.invariant c.loop-trace-test.false

@@ -1,14 +1,15 @@
-use mathlib.Core.Path.{◌≡◌, subst⁻¹, ◌∙◌}
+use mathlib.Core.Path.{◌≡◌, ◌∙◌}
 use mathlib.Core.Bool.{Bool, true, ◌&&◌, and-eq-true_iff}
-use Prim.Native.Nat.{ℕ, ◌^◌, ◌≤◌, ◌<◌}
+use native.Mathlib.Omega.{arith}
+use Prim.Native.Nat.{◌*◌, ◌%◌, ℕ, ◌^◌, ◌≤◌}
 use lib.IntN.{ℤ}
-use lib.Pow.{pow_pos, pow_mono}
+use lib.Pow.{pow_mono}
 use Rattle.integers.proofs.Machine.{back}
 use Rattle.integers.proofs.NumberLaws.{between}
 use Rattle.position.specs.Position.{in_range, word_of}
 use Rattle.position.proofs.PositionLaws.{word_holds}
 use Rattle.reckon.specs.Widening.{good_width}
-use Rattle.reckon.proofs.WideningLaws.{bad_place, bad_reading, ahead_small, by_word}
+use Rattle.reckon.proofs.WideningLaws.{bad_place, bad_reading, by_word}
 use Rattle.reckon.proofs.widening.widen.Goals as goal
 
 -- the first two tests, of the width and of the old position
@@ -18,12 +19,9 @@ tested w W p q h = rw (← p, ← q) h
 both : (w : ℕ) (W : ℤ) {a b : Bool} → a ≡ good_width w → b ≡ in_range W → (a && b) ≡ true → (good_width w ≡ true) × (in_range W ≡ true)
 both w W p q h = (and-eq-true_iff _ _).0 (tested w W p q h)
 
--- the turn
-some : (w t : ℕ) → t ≡ 2 ^ w → 0 < t
-some w t e = subst⁻¹ (λ (n : ℕ). 0 < n) e (pow_pos _)
-
-few : (w t : ℕ) → t ≡ 2 ^ w → good_width w ≡ true → t ≤ 2 ^ 32
-few w t e h = subst⁻¹ (λ (n : ℕ). n ≤ 2 ^ 32) e (pow_mono (between 2 32 _ h).1)
+-- the turn, as the machine shifts it
+turn : (w : ℕ) → good_width w ≡ true → (1 * 2 ^ w % 2 ^ 64 ≡ 2 ^ w) × (2 ^ w ≤ 2 ^ 32)
+turn w h = let few : 2 ^ w ≤ 2 ^ 32 = pow_mono (between 2 32 _ h).1 in (omega arith, few)
 
 pub returns-then-not-is_width-in_range : goal.returns-then-not-is_width-in_range
 returns-then-not-is_width-in_range c =
@@ -32,20 +30,18 @@ returns-then-not-is_width-in_range c =
 pub returns-then-turn-reading : goal.returns-then-turn-reading
 returns-then-turn-reading c =
     let b = both c.args.width c.args.position c.is_width.ensures (rw (back c.ranges.position) at c.in_range.ensures) c.if-not-is_width-in_range.false in
-    bad_reading _ _ _ b.0 b.1 (rw c.turn_of-turn.ensures at c.if-turn-reading.true)
+    bad_reading _ _ _ b.0 b.1 (rw (turn _ b.0).0 at c.if-turn-reading.true)
 
 pub nearest-requires : goal.nearest-requires
 nearest-requires c =
     let b = both c.args.width c.args.position c.is_width.ensures (rw (back c.ranges.position) at c.in_range.ensures) c.if-not-is_width-in_range.false in
-    let word : c.word_of-word.result ≡ word_of c.args.position = rw (back c.ranges.position) at c.word_of-word.ensures in (
-      rw c.ahead.ensures (ahead_small _ _ _ (some _ _ c.turn_of-turn.ensures)),
-      few _ _ c.turn_of-turn.ensures b.0,
-      rw word (word_holds _ b.1).below,
-    )
+    let t = turn c.args.width b.0 in
+    let word : c.word_of.result ≡ word_of c.args.position = rw (back c.ranges.position) at c.word_of.ensures in
+    (c.if-turn-reading.false, rw t.0 t.1, rw word (word_holds _ b.1).below)
 
 pub returns : goal.returns
 returns c =
     let b = both c.args.width c.args.position c.is_width.ensures (rw (back c.ranges.position) at c.in_range.ensures) c.if-not-is_width-in_range.false in
-    let word : c.word_of-word.result ≡ word_of c.args.position = rw (back c.ranges.position) at c.word_of-word.ensures in
-    (rw (c.ahead.ensures, word, c.turn_of-turn.ensures) at c.nearest.ensures)
-    ∙ by_word _ _ _ b.0 b.1 (rw c.turn_of-turn.ensures at c.if-turn-reading.false)
+    let t = turn c.args.width b.0 in
+    let word : c.word_of.result ≡ word_of c.args.position = rw (back c.ranges.position) at c.word_of.ensures in
+    (rw (word, t.0) at c.nearest.ensures) ∙ by_word _ _ _ b.0 b.1 (rw t.0 at c.if-turn-reading.false)

@@ -10,9 +10,9 @@ returns-in_default c = rw (sym c.in_default.ensures)
 
 pub overflow_cast-result : goal.overflow_cast-result
 overflow_cast-result c = record {
-  fits = field_below c.args.slice.now 0 layout_tag 2 (λ k. (c.type_inv.slice k).fits) (sym c.in-Value.ensures);
+  fits = field_below c.args.slice.now 0 layout_tag 2 (λ k. (c.type_inv.slice k).fits) (sym c.in-Some.ensures);
 }
 
 pub returns : goal.returns
 unfolding layout_refusal
-returns c = rw (sym c.in-Value.ensures)
+returns c = rw (sym c.in-Some.ensures)

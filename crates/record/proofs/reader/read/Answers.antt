@@ -1,16 +1,19 @@
+use Rattle.std.specs.Prelude.{Err}
 use mathlib.Core.Path.{sym, ap, ◌∙◌}
-use Rattle.record.specs.declared.answer.Read.TheVariants.{Refused}
+use Rattle.std.proofs.lemmas.Result.{err_from_is_err_and}
 use Rattle.record.specs.Record.{read_as}
 use Rattle.record.proofs.reader.read.Goals as goal
 
-pub returns-then-not-opens : goal.returns-then-not-opens
+pub returns-then-not-starts_with : goal.returns-then-not-starts_with
 unfolding read_as
-returns-then-not-opens c = rw (sym c.opens.ensures ∙ c.if-not-opens.true) (ap Refused c.layout_refusal.ensures)
+returns-then-not-starts_with c = rw (sym c.starts_with.ensures ∙ c.if-not-starts_with.true) (ap Err c.layout_refusal.ensures)
 
-pub returns-in-Said : goal.returns-in-Said
+pub returns : goal.returns
 unfolding read_as
-returns-in-Said c = rw (sym c.opens.ensures ∙ c.if-not-opens.false, sym c.in-Said.ensures) c.ended.ensures
+returns c = rw (sym c.starts_with.ensures ∙ c.if-not-starts_with.false, sym c.read_axis.ensures ∙ c.in_ok-config.was) c.ended.ensures
 
-pub returns-in-Refused : goal.returns-in-Refused
+pub returns-in_err-config : goal.returns-in_err-config
 unfolding read_as
-returns-in-Refused c = rw (sym c.opens.ensures ∙ c.if-not-opens.false, sym c.in-Refused.ensures)
+returns-in_err-config c =
+    let p = err_from_is_err_and c.from_residual.result c.from_residual.ensures.1 in
+    rw (p.1, p.2, sym c.starts_with.ensures ∙ c.if-not-starts_with.false, sym c.read_axis.ensures ∙ c.in_err-config.was)

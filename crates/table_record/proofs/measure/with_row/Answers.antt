@@ -3,22 +3,8 @@ use Rattle.axis.specs.Limit.{most_axes}
 use Rattle.record_axis.proofs.AxisLaws.{length_bounds}
 use Rattle.table_record.proofs.measure.with_row.Goals as goal
 
-pub overflow_add-result : goal.overflow_add-result
+pub overflow_add-result-in-Ok-Some-2 : goal.overflow_add-result-in-Ok-Some-2
 unfolding most_axes
-overflow_add-result c = record { fits = omega (arith, c.requires) }
-
-pub overflow_add-result-in-Axis : goal.overflow_add-result-in-Axis
-unfolding most_axes
-overflow_add-result-in-Axis c = record { fits = omega (arith, c.requires) }
-
-pub overflow_add-result-in-Axis-2 : goal.overflow_add-result-in-Axis-2
-unfolding most_axes
-overflow_add-result-in-Axis-2 c = record {
-  fits = omega (
-    arith,
-    c.requires,
-    c.axis_length.ensures,
-    length_bounds
-        c.in-Axis.saved.config.kind,
-  );
+overflow_add-result-in-Ok-Some-2 c = record {
+  fits = omega (arith, c.requires, c.axis_length.ensures, length_bounds c.from.result);
 }

@@ -1,82 +1,96 @@
+use Rattle.std.specs.Prelude.{Ok, Err}
 use mathlib.Core.Path.{◌≡◌, sym, ap, ◌∙◌}
+use mathlib.Core.Bool.{true, false}
 use mathlib.Core.List.{List}
-use Prim.Native.Nat.{ℕ, ◌*◌, ◌≤◌}
+use Prim.Native.Nat.{ℕ, ◌+◌, ◌*◌, ◌≤◌, ◌<◌}
 use native.Mathlib.Omega.{arith}
 use lib.ListN.{length}
+use Rattle.refusal.specs.declared.Refusal.TheVariants.{Length, Broken, Room}
+use Rattle.refusal.proofs.PassLaws.{passed_on}
 use Rattle.axis.specs.Limit.{most_axes}
 use Rattle.tagged.specs.Bytes.{bytes_of}
 use Rattle.tagged.specs.Field.{field_bytes}
+use Rattle.tagged.specs.Store.{Puts}
+use Rattle.record.specs.Tags.{end_tag}
 use Rattle.record_table.specs.TableRecord.{entries_bytes, table_front}
 use Rattle.record_table.proofs.WriterLaws.{puts_table}
 use Rattle.table_rows.specs.Table.{axes_in}
 use Rattle.table_rows.proofs.RowsLaws.{axes_most}
 use Rattle.table_record.specs.declared.measure.Size.{Size}
-use Rattle.table_record.specs.Saving.{entries_in, any_broken, size_to}
+use Rattle.table_record.specs.Rows.{rows_of}
+use Rattle.table_record.specs.Saving.{entries_in, any_broken, size_to, TableSaves}
+use Rattle.table_record.proofs.RowsLaws.{rows_some, rows_none}
 use Rattle.table_record.proofs.SizeLaws.{size_small}
 use Rattle.table_record.proofs.SavingLaws.{save_none, save_broken, save_short, save_wrote}
 use Rattle.table_record.proofs.save.save_table.Goals as goal
 
-module _ (t : List ℕ) (n : ℕ) (z : Size) (many : n ≡ axes_in (length t)) (measured : z ≡ size_to n t) where
+module _ (t b : List ℕ) {u : List ℕ} {z : Size} (held : rows_of t ≡ Ok u) (measured : z ≡ size_to (axes_in (length u)) u) where
   -- The size that was measured.
   sized : z ≡ size_to (axes_in (length t)) t
-  sized = measured ∙ ap (λ (m : ℕ). size_to m t) many
+  sized = measured ∙ ap (λ (v : List ℕ). size_to (axes_in (length v)) v) (rows_some t held).0
 
-  parts : (z.count ≡ length (entries_in t)) × (z.bytes ≡ length (entries_bytes (entries_in t)))
-      × (z.broken ≡ any_broken (axes_in (length t)) t)
+  long : z.bytes ≡ length (entries_bytes (entries_in t))
   unfolding size_to
-  parts = (ap (λ (y : Size). y.count) sized, ap (λ (y : Size). y.bytes) sized, ap (λ (y : Size). y.broken) sized)
+  long = ap (λ (y : Size). y.bytes) sized
+
+  judged : z.broken ≡ any_broken (axes_in (length t)) t
+  unfolding size_to
+  judged = ap (λ (y : Size). y.broken) sized
 
   small : z.bytes ≤ most_axes * 30
-  small =
-      let s = size_small (axes_in (length t)) t in
-      let m = axes_most (length t) in
-      omega (arith, ap (λ (y : Size). y.bytes) sized, s.1, m)
+  small = omega (arith, ap (λ (y : Size). y.bytes) sized, (size_small (axes_in (length t)) t).1, axes_most (length t))
 
-pub returns-then-n-eq0 : goal.returns-then-n-eq0
-returns-then-n-eq0 c = save_none c.args.table.now c.args.buf.now (sym
-    c.axes_in-n.ensures ∙ c.if-n-eq0.true)
+  -- Behind the front there is room for the rows' entries and for the end.
+  room : {m : List ℕ} {i : ℕ} → 12 + z.bytes ≤ length b → Puts (table_front z.count) b 0 m i → length m ≡ length b →
+      i + length (entries_bytes (entries_in u)) + 3 ≤ length m
+  unfolding size_to table_front field_bytes bytes_of
+  room h p e = omega (arith, ap (λ (y : Size). y.bytes) measured, p.behind)
+
+  -- What is answered.
+  broken : z.broken ≡ true → TableSaves t b b (Err Broken)
+  broken e = save_broken t b (rows_some t held).1 (sym judged ∙ e)
+
+  short : z.broken ≡ false → length b < 12 + z.bytes → TableSaves t b b (Err Room)
+  short e l = save_short t b (rows_some t held).1 (sym judged ∙ e) (omega (arith, long, l))
+
+  wrote : {m l d : List ℕ} {i j r : ℕ} → z.broken ≡ false → 12 + z.bytes ≤ length b → Puts (table_front z.count) b 0 m i →
+      Puts (entries_bytes (entries_in u)) m i l j → Puts (field_bytes end_tag 0 0) l j d r → TableSaves t b d (Ok r)
+  unfolding size_to
+  wrote e h p q f =
+      save_wrote t b (rows_some t held).1 (sym judged ∙ e) (omega (arith, long, h))
+      (puts_table (entries_in t) (rw (ap (λ (y : Size). y.count) sized) at p) (rw (rows_some t held).0 at q) f)
+
+pub returns-in_err-rows : goal.returns-in_err-rows
+returns-in_err-rows c =
+    let k = rows_none c.args.table.now (sym c.try_from.ensures ∙ c.in_err-rows.was) in
+    let r : c.from_residual.result ≡ Err Length = passed_on c.from_residual.ensures.1 (ap Err k.1) in
+    rw r (save_none c.args.table.now c.args.buf.now k.0)
 
 pub returns-then-size : goal.returns-then-size
-returns-then-size c =
-    save_broken c.args.table.now c.args.buf.now (λ e. c.if-n-eq0.false (c.axes_in-n.ensures ∙ e)) (sym (parts _ _ _ c.axes_in-n.ensures c.measure-size.ensures).2 ∙ c.if-size.true)
+returns-then-size c = broken _ _ (sym c.try_from.ensures ∙ c.in_ok-rows.was) c.measure-size.ensures c.if-size.true
 
 pub overflow_add-size : goal.overflow_add-size
 unfolding most_axes
-overflow_add-size c = record { fits = omega (arith, small _ _ _ c.axes_in-n.ensures c.measure-size.ensures) }
+overflow_add-size c = record {
+  fits = omega (arith, small c.args.table.now c.args.buf.now (sym c.try_from.ensures ∙ c.in_ok-rows.was) c.measure-size.ensures);
+}
 
 pub returns-then-buf-size : goal.returns-then-buf-size
-returns-then-buf-size c =
-    save_short c.args.table.now c.args.buf.now (λ e. c.if-n-eq0.false (c.axes_in-n.ensures ∙ e)) (sym (parts _ _ _ c.axes_in-n.ensures c.measure-size.ensures).2 ∙ c.if-size.false) (omega
-    (arith, (parts _ _ _ c.axes_in-n.ensures c.measure-size.ensures).1, c.if-buf-size.true))
+returns-then-buf-size c = short _ _ (sym c.try_from.ensures ∙ c.in_ok-rows.was) c.measure-size.ensures c.if-size.false c.if-buf-size.true
 
 pub put_rows-at-requires : goal.put_rows-at-requires
-unfolding table_front field_bytes bytes_of
 put_rows-at-requires c =
-    let p = c.put_table_front-at in (
-      c.axes_in-n.ensures,
-      rw c.axes_in-n.ensures (omega (arith, c.if-buf-size.false, (parts _ _ _ c.axes_in-n.ensures c.measure-size.ensures).1, p.auto.buf, p.ensures.behind)),
-    )
+    let p = c.put_table_front-at in
+    omega (arith, room _ _ (sym c.try_from.ensures ∙ c.in_ok-rows.was) c.measure-size.ensures c.if-buf-size.false p.ensures p.auto.buf)
 
 pub put_field-requires : goal.put_field-requires
-unfolding table_front field_bytes bytes_of
 put_field-requires c =
     let p = c.put_table_front-at in
     let q = c.put_rows-at in
-    omega (
-      arith,
-      c.if-buf-size.false,
-      (parts _ _ _ c.axes_in-n.ensures c.measure-size.ensures).1,
-      p.auto.buf,
-      p.ensures.behind,
-      q.auto.buf,
-      rw c.axes_in-n.ensures at q.ensures.behind,
-    )
+    let r = room _ _ (sym c.try_from.ensures ∙ c.in_ok-rows.was) c.measure-size.ensures c.if-buf-size.false p.ensures p.auto.buf in
+    omega (arith, r, q.auto.buf, q.ensures.behind)
 
 pub returns : goal.returns
 returns c =
-    save_wrote c.args.table.now c.args.buf.now (λ e. c.if-n-eq0.false (c.axes_in-n.ensures ∙ e)) (sym (parts _ _ _ c.axes_in-n.ensures c.measure-size.ensures).2
-    ∙ c.if-size.false)
-    (omega (arith, c.if-buf-size.false, (parts _ _ _ c.axes_in-n.ensures c.measure-size.ensures).1))
-    (puts_table (entries_in c.args.table.now) (rw (parts _ _ _ c.axes_in-n.ensures c.measure-size.ensures).0 at
-    c.put_table_front-at.ensures)
-    (rw c.axes_in-n.ensures at c.put_rows-at.ensures) c.put_field.ensures)
+    wrote _ _ (sym c.try_from.ensures ∙ c.in_ok-rows.was) c.measure-size.ensures c.if-size.false c.if-buf-size.false c.put_table_front-at.ensures
+    c.put_rows-at.ensures c.put_field.ensures

@@ -1,7 +1,6 @@
 use mathlib.Core.Path.{◌≡◌, ap, ◌∙◌}
 use Prim.Native.Nat.{ℕ, suc, ◌-◌}
 use native.Mathlib.Omega.{arith}
-use lib.ListN.{length-set}
 use lib.Seq.{sets}
 use Rattle.tagged.specs.Bytes.{bytes_of}
 use Rattle.tagged.proofs.StoreLaws.{bytes_last}
@@ -11,15 +10,12 @@ pub loop-j-preserved : goal.loop-j-preserved
 loop-j-preserved c =
     let l = c.loop-j in
     let a = c.args in
-    let e : suc (l.j - 1) ≡ l.j = omega arith in (
-      omega arith,
-      length-set l.buf _ _ ∙ l.invariant.1,
-      bytes_last l.buf a.at (l.j - 1) l.rest ∙ ap (λ (k : ℕ). sets l.buf a.at (bytes_of k l.rest)) e ∙ l.invariant.2,
-    )
+    let e : suc (l.j - 1) ≡ l.j = omega arith in
+    bytes_last l.buf a.at (l.j - 1) l.rest ∙ ap (λ (k : ℕ). sets l.buf a.at (bytes_of k l.rest)) e ∙ l.invariant
 
 pub returns : goal.returns
 unfolding bytes_of
 returns c =
     let l = c.loop-j in
     let e : 0 ≡ l.j = omega arith in
-    ap (λ (k : ℕ). sets l.buf c.args.at (bytes_of k l.rest)) e ∙ l.invariant.2
+    ap (λ (k : ℕ). sets l.buf c.args.at (bytes_of k l.rest)) e ∙ l.invariant

@@ -1,22 +1,15 @@
-use mathlib.Core.Path.{sym, ap, ◌∙◌}
+use mathlib.Core.Path.{◌≡◌, sym, ap, refl, ◌∙◌}
 use mathlib.Core.List.{[], ◌∷◌}
-use native.Mathlib.Omega.{arith}
-use lib.ListN.{take, get_or}
+use borrow.Author.Rules.{rules}
+use Rattle.std.proofs.lemmas.Fn.{fold_over, slice_gives, fronts}
 use Rattle.trace_axis.specs.Trace.{fed_with}
-use Rattle.trace_axis.specs.declared.trace.Trace.{Trace}
-use Rattle.trace_axis.proofs.TraceLaws.{take_next, fed_none, cut}
+use Rattle.trace_axis.proofs.TraceLaws.{fed_none, cut}
 use Rattle.trace_axis.proofs.trace.Trace.fed.Goals as goal
 
-pub loop-i-init : goal.loop-i-init
-loop-i-init c = (omega arith, sym (fed_none _))
-
-pub loop-i-preserved : goal.loop-i-preserved
-loop-i-preserved c =
-    let l = c.loop-i in
-    let a = c.args in (
-      omega arith,
-      c.taken-trace.ensures
-          ∙ ap (λ (x : Trace). fed_with x (get_or a.bytes.now l.i 0 ∷ [])) l.invariant.1
-          ∙ cut a.self (take l.i a.bytes.now) (get_or a.bytes.now l.i 0 ∷ [])
-          ∙ ap (fed_with a.self) (take_next a.bytes.now l.i (omega arith)),
-    )
+pub returns : goal.returns
+returns c =
+    let x = c.args.self in
+    fold_over fronts (λ y. y.now) _ (λ bs t. t ≡ fed_with x bs) _
+    (λ bs t y u f' j k. let e : u ≡ fed_with t (y.now ∷ []) = search rules in (rw (e, j, cut), refl))
+    _ _ _ _ (slice_gives _) (sym (fed_none x)) c.fold.ensures.ran
+    ∙ ap (fed_with x) c.iter.ensures.rest
