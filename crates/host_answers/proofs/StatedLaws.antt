@@ -46,7 +46,7 @@ abbrev sped : ℕ → ℕ → ℤ → ℤ → ℕ → SpeedAnswer
 sped refusal found number remainder divisor =
     record { refusal = refusal; found = found; number = number; remainder = remainder; divisor = divisor }
 
--- Ok, remainder and divisor each in its own place, and 0 in all three on a refusal.
+-- Number, remainder and divisor each in its own place, and 0 in all three on a refusal.
 pub speed_stated : AsStated (
     (answer_speed (Ok (parts (negsuc 332) (pos 1) 3)) is sped 0 0 (negsuc 332) (pos 1) 3)
     ∷ (answer_speed (Ok (parts (pos 7) (negsuc 4) 4294967295)) is sped 0 0 (pos 7) (negsuc 4) 4294967295)

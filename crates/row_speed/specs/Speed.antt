@@ -18,7 +18,7 @@ sign_of d = cond (eqb d 2) (negsuc 0) (pos 1)
 abbrev pub span_of : Pace → ℕ
 span_of p = max p.period p.age
 
--- (Result Quotient Refusal) by the pace of a sampled row: one count over that many samples.
+-- Speed by the pace of a sampled row: one count over that many samples.
 unfoldable pub speed_of : ℕ → Pace → Result Quotient Refusal
 speed_of rate p =
     cond (good_rate rate)

@@ -27,7 +27,7 @@ use Rattle.table_rows.specs.Located.{located, on_found}
 use Rattle.table.specs.Call.{SaveMakes, Fronts}
 use Rattle.table_rows.proofs.LocatedLaws.{found}
 
--- Ok put before what lay beyond them.
+-- Bytes put before what lay beyond them.
 fronts : (bytes b : List ℕ) (n : ℕ) (d : List ℕ) → length bytes ≡ n → n ≤ length b → d ≡ bytes ++ drop n b → Fronts bytes b n d
 fronts bytes b n d size room e = record {
   size = size;

@@ -123,7 +123,7 @@ module _ (k : ℕ) (t : List ℕ) (h : k < axes_in (length t)) (s : List ℕ) wh
   unfolding share_row
   share_row_lem = ap (λ (a : Result (List Entry) Refusal). row_at (table_left t a) k) ruling_is ∙ (ruled (table_read_as s)).1
 
-  -- Ok the axis it is all one whether it is told that another row was not empty or that the call was refused.
+  -- To the axis it is all one whether it is told that another row was not empty or that the call was refused.
   pub share_refused :
       share_row share (row_at t k) ≡ share_row (record { axis = k; axes = n; bytes = s; others = refuses_table t s }) (row_at t k)
   unfolding share_row
