@@ -1,7 +1,8 @@
 // What most calls answer to C.
 ghost use Rattle.std.specs.Prelude.{◌≡◌, ◌<◌, ◌^◌};
 ghost use Rattle.record.specs.Answer.{written_bytes};
-ghost use Rattle.host_answers.specs.Answer.{answer_value, answer_refused, answer_to, answer_done, answer_written};
+ghost use Rattle.host_answers.specs.Answer.{answer_value, answer_refused, answer_to};
+ghost use Rattle.host_answers.specs.Answer.{answer_test, answer_done, answer_written};
 
 use refusal::Refusal;
 
@@ -51,7 +52,7 @@ impl From<Result<i64, Refusal>> for Answer {
     }
 }
 
-// The answer of a call that says only that it was done, a record test too.
+// The answer of a call that says only that it was done.
 impl From<Result<(), Refusal>> for Answer {
     ghost from_gives = { λ r a. a ≡ answer_done r };
 
@@ -62,6 +63,14 @@ impl From<Result<(), Refusal>> for Answer {
             Err(e) => Answer::from(e),
         }
     }
+}
+
+// The answer of a record test, which is no other.
+#[tactic(auto, unfolding(crate::specs::Answer::answer_test), using(crate::proofs::AnswerLaws::test_done))]
+pub fn of_tested(r: Result<(), Refusal>) -> Answer
+    ensures { result ≡ answer_test r }
+{
+    Answer::from(r)
 }
 
 // The answer of a save: the number of bytes, which fits the value. No `From`, since it asks that of its argument.

@@ -1,4 +1,4 @@
-// Readings as text on standard output, a line each. Each function fails where not all of it could be written.
+// Readings as text on standard output, a line each, piece by piece. Each function fails where not all of it could be written.
 use refusal::Refusal;
 use speed::Quotient;
 use std::fmt::Display;
@@ -12,56 +12,75 @@ pub fn answer<T: Display + Drop>(
     label: &str,
     answer: Result<T, Refusal>,
 ) -> io::Result<()> {
+    rt.print(label)?;
     match answer {
-        Ok(value) => println!(rt; "{label}{value}"),
-        Err(e) => println!(rt; "{label}{e}"),
+        Ok(value) => rt.print(value)?,
+        Err(e) => rt.print(e)?,
     }
+    rt.print("\n")
 }
 
 // A speed with its remainder, or the reason.
 pub fn speed(rt: &impl Print, label: &str, answer: Result<Quotient, Refusal>) -> io::Result<()> {
+    rt.print(label)?;
     match answer {
-        Ok(
-            Quotient {
-                number,
-                remainder,
-                divisor,
-            },
-        ) => { println!(rt; "{label}{number} remainder {remainder} over {divisor}") }
-        Err(e) => println!(rt; "{label}{e}"),
+        Ok(q) => {
+            rt.print(q.number)?;
+            rt.print(" remainder ")?;
+            rt.print(q.remainder)?;
+            rt.print(" over")?;
+            word(rt, q.divisor)?;
+        }
+        Err(e) => rt.print(e)?,
     }
+    rt.print("\n")
 }
 
 // The position of a table's axis and whether HOMED and RANGE are set, or the reason.
 pub fn viewed(rt: &impl Print, label: &str, table: [u64; 4]) -> io::Result<()> {
+    rt.print(label)?;
     match view(&table, 0) {
         Ok(v) => {
-            let position = v.position;
-            let homed = if v.homed { " HOMED" } else { "" };
-            let range = if v.range { " RANGE" } else { "" };
-            println!(rt; "{label}{position}{homed}{range}")
+            rt.print(v.position)?;
+            if v.homed {
+                rt.print(" HOMED")?;
+            }
+            if v.range {
+                rt.print(" RANGE")?;
+            }
         }
-        Err(e) => println!(rt; "{label}{e}"),
+        Err(e) => rt.print(e)?,
     }
+    rt.print("\n")
+}
+
+// A word behind a space.
+fn word(rt: &impl Print, w: u64) -> io::Result<()> {
+    print!(rt; " {w}")
 }
 
 // The words of a table.
 pub fn words(rt: &impl Print, label: &str, table: [u64; 4]) -> io::Result<()> {
     rt.print(label)?;
     for w in &table {
-        print!(rt; " {w}")?;
+        word(rt, *w)?;
     }
-    rt.println("")
+    rt.print("\n")
 }
 
 // The record of a table's axis in a buffer, byte by byte in hexadecimal, or the reason.
 pub fn saved(rt: &impl Print, label: &str, table: [u64; 4], buf: &mut [u8]) -> io::Result<()> {
-    if let Err(e) = save(&table, 0, buf) {
-        return println!(rt; "{label} {e}");
-    }
     rt.print(label)?;
-    for byte in buf {
-        print!(rt; " {byte:02x}")?;
+    match save(&table, 0, buf) {
+        Ok(_) => {
+            for byte in buf {
+                print!(rt; " {byte:02x}")?;
+            }
+        }
+        Err(e) => {
+            rt.print(" ")?;
+            rt.print(e)?;
+        }
     }
-    rt.println("")
+    rt.print("\n")
 }

@@ -53,6 +53,9 @@ accepted w W r h = rw h
 
 -- ---- by the word: a position's word is 2 ^ 62 more, a whole number of turns
 
+pub ahead_small : (turn word r : ℕ) → 0 < turn → ahead_of turn word r < turn
+ahead_small turn word r p = mod-lt _ p
+
 middle : (w : ℕ) → w ≤ 32 → 2 ^ (62 - w) * 2 ^ w ≡ 2 ^ 62
 middle w h = let k : (62 - w) + w ≡ 62 = omega arith in sym (pow-add 2 (62 - w) w) ∙ ap (λ (k : ℕ). 2 ^ k) k
 

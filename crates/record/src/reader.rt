@@ -2,14 +2,13 @@
 ghost use Rattle.std.specs.Prelude.{◌≡◌};
 ghost use Rattle.record.specs.Record.{layout_refusal, ended_at, read_as, tested_as};
 
-use crate::opening::OPENING;
+use crate::opening::opens;
 use crate::tags::{END, LAYOUT};
 use axis::config::Config;
 use record_axis::axis_fields::read_axis;
 use record_axis::limits::is_within;
 use record_axis::saved::Saved;
 use refusal::Refusal;
-use tagged::bytes::starts_with;
 use tagged::field::read_field;
 use tagged::twos::of_bits;
 
@@ -47,7 +46,7 @@ fn ended(slice: &[u8], at: usize, config: Config, bits: u64) -> Result<Saved, Re
 pub fn read(slice: &[u8]) -> Result<Saved, Refusal>
     ensures { result ≡ read_as slice.now }
 {
-    if !starts_with(slice, &OPENING) {
+    if !opens(slice) {
         return Err(layout_refusal(slice));
     }
     let (config, bits, at) = read_axis(slice, 5)?;

@@ -3,14 +3,13 @@ ghost use Rattle.std.specs.Prelude.{◌≡◌};
 ghost use Rattle.record_table.specs.TableRecord.{closes_at, entries_at, table_read_as};
 ghost use Rattle.record_table.specs.Survey.{survey_of};
 
-use crate::opening::OPENING;
+use crate::opening::opens;
 use crate::tags::COUNT;
 use axis::limit::AXES;
 use record::reader::layout_refusal;
 use record::tags::END;
 use record_entry::reader::read_entry;
 use refusal::Refusal;
-use tagged::bytes::starts_with;
 use tagged::field::read_field;
 
 // Whether the end field stands at at with nothing after it.
@@ -47,7 +46,7 @@ fn walk(slice: &[u8], at: usize, count: usize) -> Result<(usize, u64), Refusal>
 pub fn read_table(slice: &[u8]) -> Result<(usize, u64), Refusal>
     ensures { result ≡ survey_of (table_read_as slice.now) }
 {
-    if !starts_with(slice, &OPENING) {
+    if !opens(slice) {
         return Err(layout_refusal(slice));
     }
     let Some((count, at)) = read_field(slice, 5, COUNT, 1) else {

@@ -1,4 +1,5 @@
 -- What a row's status gives to the calls: an axis that has a position and packs again.
+use Prim.Native.Nat.{ℕ, ◌^◌, ◌<◌}
 use native.Mathlib.Omega.{arith}
 use mathlib.Core.Path.{◌≡◌, refl, ap}
 use mathlib.Core.Logic.{◌⊎◌, inl, inr}
@@ -13,13 +14,28 @@ use Rattle.refusal.specs.declared.Refusal.{Refusal}
 use Rattle.refusal.specs.declared.Refusal.TheVariants.{Broken as BROKEN, Empty as EMPTY}
 use Rattle.axis.specs.Row.{axis_of, Narrow}
 use Rattle.axis_sound.specs.Sound.{status_of, low_row}
+use Rattle.axis.specs.declared.row.Axis.{Axis}
+use Rattle.axis.specs.declared.row.Flags.{Flags}
 use Rattle.axis.specs.declared.row.Row.{Row}
 use Rattle.axis_sound.specs.declared.Status.{Status}
 use Rattle.axis_sound.specs.declared.Status.TheVariants.{Empty, Sampled, Counter, Broken}
 use Rattle.axis_open.specs.declared.Opened.{Opened}
 use Rattle.axis_sound.proofs.SoundLaws.{sampled_gives, counter_gives}
 use Rattle.axis_open.proofs.OpenLaws.{opened_narrow, opened_sampled, opened_counter}
+use Rattle.row_calls.specs.Change.{changed}
 use Rattle.row_calls.specs.Calls.{by_status}
+
+-- An axis within its widths packs, whatever its word, its flags and its doubles become.
+pub packs : {a : Axis} → Narrow a → (word : ℕ) (flags : Flags) (doubles : ℕ) → doubles < 2 ^ 16 → Narrow (changed a word flags doubles)
+unfolding changed
+packs n word flags doubles below = record {
+  config = n.config;
+  run_a = n.run_a;
+  run_b = n.run_b;
+  run_z = n.run_z;
+  doubles = below;
+  direction = n.direction;
+}
 
 -- The machine holds a position as it is.
 pub held_position : (p : ℤ) → in_range p ≡ true → to_z w64 (of_z w64 p) ≡ p

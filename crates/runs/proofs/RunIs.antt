@@ -81,7 +81,7 @@ module _ {t u : List ℕ} {k : ℕ} where
         (λ s. record { answer = done_only a _ (rw g at s.told ∙ sym told); table = rw f at s.table }),
       )
 
-  -- The five that are one code enum.
+  -- The five that are one enum of changes.
   change_run : (c : Change) {a : Result ⊤ Refusal} → Makes (change_row c) t k u a ↔ Says (changes c) t k u (told_done a)
   unfolding rule_of answer_of
   change_run c = done_run (changes c) (change_row c) refl refl

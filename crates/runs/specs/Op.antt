@@ -18,8 +18,8 @@ pub data Look : Type 0 where
   speed : ℕ → Look
   save : List ℕ → Look
 
--- A call that names the axis, with any arguments. The code's own `Change`, and restore by the record's bytes, make another row and
--- answer only that they did; a reading makes another row and answers more than that.
+-- A call that names the axis, with any arguments. A `Change`, which is one of five calls, and restore by the record's bytes, make another row
+-- and answer only that they did; a reading makes another row and answers more than that.
 pub data Op : Type 0 where
   changes : Change → Op
   restore : List ℕ → Op

@@ -1,5 +1,5 @@
 -- The laws of a reading and a save of the named axis: docs/RULES.md, "Calls that name one axis".
-use Rattle.std.specs.Prelude.{Result, Ok, Err}
+use Rattle.std.specs.Prelude.{Result, Ok, Err, ⊤}
 use Prim.Native.Nat.{ℕ, ◌<◌}
 use mathlib.Core.Path.{◌≡◌, refl, sym, ap, ◌∙◌}
 use mathlib.Core.List.{List}
@@ -12,10 +12,10 @@ use Rattle.row_saving.specs.Saving.{save_row, saved_in}
 use Rattle.row_counter.specs.Reading.{reading_row, stored_row, read_row, read_axis}
 use Rattle.table_rows.specs.Table.{axes_in, row_at, set_row}
 use Rattle.table_rows.specs.Located.{located, on_found}
-use Rattle.table_change.specs.Making.{ruled, table_after, Spares}
+use Rattle.table_change.specs.Making.{ruled, table_after, Spares, Commits}
 use Rattle.table.specs.Call.{read_in, ReadingMakes, SaveMakes}
 use Rattle.table_rows.proofs.LocatedLaws.{found, found_at}
-use Rattle.table_change.proofs.MakingLaws.{replaced, spares}
+use Rattle.table_change.proofs.MakingLaws.{found_makes, replaced, spares}
 
 -- ---- the ways out of a call
 
@@ -24,6 +24,11 @@ module _ (x : ℕ) (t : List ℕ) (k : ℕ) where
   pub not_read : (e : Refusal) → located t k ≡ Err e → ReadingMakes x t k t (Err e)
   unfolding table_after
   not_read e q = record { answer = rw q; table = rw q }
+
+  -- A reading of one that is, whatever it makes of the row.
+  pub found_commits : (r : Row) (c : Result Row Refusal) {u : List ℕ} {n : Result ℤ Refusal} {a : Result ⊤ Refusal} →
+      located t k ≡ Ok r → n ≡ reading_row x r → c ≡ read_row x r → Commits c t k u a → ReadingMakes x t k u n
+  found_commits r c q p e w = record { answer = p ∙ rw q; table = (found_makes (read_row x) t k r c q e w).table }
 
   -- A reading of one that is, refused.
   pub found_unread : (r : Row) (e : Refusal) → located t k ≡ Ok r → Err e ≡ reading_row x r → Err e ≡ read_row x r → ReadingMakes x t k t (Err e)

@@ -2,7 +2,8 @@
 ghost use Rattle.table.specs.Call.{ReadingMakes};
 
 use refusal::Refusal;
-use table_rows::{locate, write_row};
+use table_change::commit::commit;
+use table_rows::locate;
 
 // The position that a reading gives, stored and answered: LENGTH, AXIS, BROKEN, EMPTY, KIND, VALUE, HALF, RANGE.
 pub fn reading(table: &mut [u64], axis: u64, reading: u64) -> Result<i64, Refusal>
@@ -10,6 +11,6 @@ pub fn reading(table: &mut [u64], axis: u64, reading: u64) -> Result<i64, Refusa
 {
     let row = locate(table, axis)?;
     let (position, made) = row_counter::read(row, reading)?;
-    write_row(table, axis as usize, made);
+    commit(table, axis, Ok(made))?;
     Ok(position)
 }

@@ -7,7 +7,7 @@ ghost use Rattle.table_port.specs.Port.{put_bit, noted, Below, SamplesRow, Sampl
 
 use refusal::Refusal;
 use row_sample::{SteppedRow, step_row};
-use table_rows::{axes_in, read_row, write_row};
+use table_rows::{axes_or_length, read_row, write_row};
 
 // Bit k is axis k's.
 #[derive(Clone, Copy, Debug, Default, PartialEq, Eq)]
@@ -53,7 +53,7 @@ fn sample_row(table: &mut [u64], k: usize, port: u64) -> SteppedRow
 pub fn sample(table: &mut [u64], port: u64) -> Result<Masks, Refusal>
     ensures { Samples table.old port table.new result }
 {
-    let n = axes_in(table.len())?;
+    let n = axes_or_length(table.len())?;
     let mut masks = Masks::default();
     for k in 0..n {
         masks = note(masks, k, sample_row(table, k, port));

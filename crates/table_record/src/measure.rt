@@ -39,7 +39,7 @@ fn with_row(size: Size, said: Result<Option<Saved>, Refusal>) -> Size
 }
 
 // The size of a table's rows: every row is looked at before any byte is written.
-pub fn measure(rows: &Rows) -> Size
+pub(crate) fn size_of(rows: &Rows) -> Size
     ensures { result ≡ size_to (axes_in (length rows.now)) rows.now }
 {
     let mut size = Size::default();
@@ -47,4 +47,15 @@ pub fn measure(rows: &Rows) -> Size
         size = with_row(size, said_by(rows.row(k)));
     }
     size
+}
+
+// The size of the first n rows of a table with so many.
+pub fn measure(table: &[u64], n: usize) -> Size
+    requires { n ≡ axes_in (length table.now) }
+    ensures { result ≡ size_to n table.now }
+{
+    match Rows::try_from(table) {
+        Ok(rows) => size_of(&rows),
+        Err(_) => Size::default(),
+    }
 }

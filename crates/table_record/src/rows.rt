@@ -6,7 +6,7 @@ ghost use Rattle.table_record.specs.Rows.{rows_of};
 use axis::row::Row;
 use refusal::Refusal;
 use std::marker::Model;
-use table_rows::{axes_in, read_row};
+use table_rows::{axes_or_length, read_row};
 
 // The words of a table, and how many rows they are.
 #[derive(Drop)]
@@ -31,7 +31,7 @@ impl<'a> TryFrom<&'a [u64]> for Rows<'a> {
     ghost try_from_gives = { λ words rows. rows ≡ rows_of words.now };
 
     fn try_from(words: &'a [u64]) -> Result<Rows<'a>, Refusal> {
-        let count = axes_in(words.len())?;
+        let count = axes_or_length(words.len())?;
         Ok(Rows { words, count })
     }
 }

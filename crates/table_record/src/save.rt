@@ -4,7 +4,7 @@ ghost use Rattle.tagged.specs.Store.{Puts};
 ghost use Rattle.record_table.specs.TableRecord.{entries_bytes};
 ghost use Rattle.table_record.specs.Saving.{entries_in, TableSaves};
 
-use crate::measure::measure;
+use crate::measure::size_of;
 use crate::row::said_by;
 use crate::rows::Rows;
 use record::tags::END;
@@ -35,7 +35,7 @@ pub fn save_table(table: &[u64], buf: &mut [u8]) -> Result<usize, Refusal>
     ensures { TableSaves table.now buf.old buf.new result }
 {
     let rows = Rows::try_from(table)?;
-    let size = measure(&rows);
+    let size = size_of(&rows);
     if size.broken {
         return Err(Refusal::Broken);
     }

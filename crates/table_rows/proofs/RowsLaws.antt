@@ -17,6 +17,15 @@ use Rattle.table_rows.specs.Table.{axes_in, row_at, set_row, AllWords}
 
 -- ---- how many axes
 
+-- A length that passes the test holds a fourth of it, and any other none.
+pub axes_held : (len : ℕ) → (eqb (len % 4) 0 && leb (len / 4) most_axes) ≡ true → len / 4 ≡ axes_in len
+unfolding axes_in
+axes_held len e = rw e
+
+pub axes_none : (len : ℕ) → (eqb (len % 4) 0 && leb (len / 4) most_axes) ≡ false → 0 ≡ axes_in len
+unfolding axes_in
+axes_none len e = rw e
+
 -- Four words for each axis lie in the slice.
 pub axes_fit : (len : ℕ) → axes_in len * 4 ≤ len
 unfolding axes_in

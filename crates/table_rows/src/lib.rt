@@ -2,15 +2,25 @@
 #![tactic(auto)]
 
 ghost use Rattle.std.specs.Prelude.{◌≡◌, ◌+◌, ◌*◌, ◌≤◌, length};
-ghost use Rattle.table_rows.specs.Table.{row_at, set_row};
+ghost use Rattle.table_rows.specs.Table.{axes_in, row_at, set_row};
 ghost use Rattle.table_rows.specs.Located.{axes_or_length, located};
 
 use axis::limit::AXES;
 use axis::row::Row;
 use refusal::Refusal;
 
+// How many axes a slice of so many words holds, and 0 where the length is wrong.
+pub fn axes_in(len: usize) -> usize
+    ensures { result ≡ axes_in len }
+{
+    match axes_or_length(len) {
+        Ok(n) => n,
+        Err(_) => 0,
+    }
+}
+
 // How many axes a slice of so many words holds: LENGTH.
-pub fn axes_in(len: usize) -> Result<usize, Refusal>
+pub fn axes_or_length(len: usize) -> Result<usize, Refusal>
     ensures { result ≡ axes_or_length len }
 {
     if (len % 4 == 0) & (0 < len / 4) & (len / 4 <= AXES) {
@@ -49,7 +59,7 @@ pub fn write_row(table: &mut [u64], k: usize, row: Row)
 pub fn locate(table: &[u64], axis: u64) -> Result<Row, Refusal>
     ensures { result ≡ located table.now axis }
 {
-    let n = axes_in(table.len())?;
+    let n = axes_or_length(table.len())?;
     if axis < n as u64 {
         return Ok(read_row(table, axis as usize));
     }

@@ -78,6 +78,14 @@ doubles_fit n h = rw (printed n (omega arith)) (doubles_room n h)
 -- All three of them.
 pub ruleset lines_fit = (samples_fit, position_fits, doubles_fit)
 
+-- The three lines in a row are the report's text.
+pub puts_lines : (r : Report) {b m l d : List ℕ} {i j n : ℕ} →
+    Puts (line_of samples_label (decimal r.samples)) b 0 m i → Puts (line_of position_label (numeral r.position)) m i l j →
+    Puts (line_of doubles_label (decimal r.doubles)) l j d n →
+    Puts (text_of r) b 0 d n
+unfolding text_of
+puts_lines r p q f = puts_then p (puts_then q f)
+
 -- Three printed lines in a row are the report's text, the position as the machine reads it back.
 pub puts_text : (r : Report) {b m l d : List ℕ} {i j n : ℕ} → r.samples < 2 ^ 64 → SFits w64 r.position → r.doubles < 2 ^ 16 → 73 ≤ length b →
     Puts (line_of samples_label (Fmt.decimal r.samples)) b 0 m i →
@@ -89,7 +97,7 @@ puts_text r {b} s p k room x y z =
     let x = rw (printed r.samples s) at x in
     let y = rw (back p, printed_signed r.position p) at y in
     let z = rw (printed r.doubles (omega arith)) at z in
-    let w = puts_then x (puts_then y z) in
+    let w = puts_lines r x y z in
     record {
       buffer = w.buffer;
       number = w.behind ∙ zero-add _;

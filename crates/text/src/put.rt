@@ -1,5 +1,5 @@
 // Text in a lent buffer: lines of a label and a number.
-ghost use Rattle.std.specs.Prelude.{◌+◌, ◌≤◌, length};
+ghost use Rattle.std.specs.Prelude.{◌≡◌, ◌+◌, ◌≤◌, length, nat_abs};
 ghost use Rattle.text.specs.Text.{line_of};
 ghost use Rattle.tagged.specs.Store.{Puts};
 
@@ -16,4 +16,11 @@ pub(crate) fn put_line<N: Integer>(out: &mut [u8], at: usize, label: &[u8], n: N
     let number = put_bytes(out, at, label);
     let end = put_bytes(out, number, digits.format(n).as_bytes());
     put_bytes(out, end, b"\n")
+}
+
+// How far a number is from 0.
+pub fn size(z: i64) -> u64
+    ensures { result ≡ nat_abs z }
+{
+    z.unsigned_abs()
 }

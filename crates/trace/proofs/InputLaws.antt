@@ -253,6 +253,21 @@ pub report_says : {r : Result Report Error} (p : Reported r) →
     ((k : ℕ) → p.turn.got ≡ Ok k → r ≡ Ok (input_report p.input.bytes)) × ((e : Error) → p.turn.got ≡ Err e → r ≡ Err e)
 report_says p = (λ k e. rw e at p.answer, λ x e. rw e at p.answer)
 
+-- A report that was written is lines at the front of the buffer, those of the bytes that were read; where the bytes that the reader had are known,
+-- of all of them.
+pub written_whole : (old new : Option (List ℕ)) {t : Turn} {r : Report} {b d : List ℕ} {n : ℕ} → InputTaken old new t →
+    (Failed t.got → ⊥) → r ≡ report_of t.trace → Writes r b d n → IfSome old (λ xs. take n d ≡ text_of (input_report xs))
+written_whole None new i good e w = tt
+written_whole (Some xs) new i good e w = writes_front w ∙ ap text_of (e ∙ read_report i.input ∙ taken_report (Some xs) new i good)
+
+pub written_says : {r : Report} (p : Reported (Ok r)) {b d : List ℕ} {n : ℕ} → Writes r b d n → take n d ≡ text_of (input_report p.input.bytes)
+written_says p w = writes_front w ∙ ap text_of (answered_ok p.turn.got p.answer).0
+
+pub written_lines : {r : Report} {b d : List ℕ} {n : ℕ} → Reported (Ok r) → Writes r b d n → (n ≤ length d) × ReportLines (take n d)
+written_lines p w =
+    let q = answered_ok p.turn.got p.answer in
+    (w.fits, record { turn = p.turn; input = p.input; good = q.1; text = writes_front w ∙ ap text_of q.0 })
+
 -- The lines of a report that was answered are those of the input's report.
 pub report_lines : {r : Report} → Reported (Ok r) → ReportLines (text_of r)
 report_lines p =

@@ -69,6 +69,11 @@ fed_sample x b t h e =
     let q : take (LIMIT - x.samples) (b ∷ []) ≡ b ∷ [] = take_all (LIMIT - x.samples) (b ∷ []) (omega arith) in
     rw (q, e)
 
+-- Below the limit every read gets on.
+pub fed_grows : (x : Trace) (bs : List ℕ) → x.samples < LIMIT → 0 < length bs → x.samples < (fed_with x bs).samples
+unfolding fed_with
+fed_grows x bs h some = omega (arith, length-take (LIMIT - x.samples) bs)
+
 -- ---- from a table's words to its row
 
 -- A sample of a table of one axis steps its row by the low four bits.

@@ -32,7 +32,7 @@ ended {t₀} {port = port} {k = k} v e h =
 
 pub returns-in_err-n : goal.returns-in_err-n
 returns-in_err-n c =
-    let k = axes_refused _ _ (sym c.axes_in.ensures ∙ c.in_err-n.was) in
+    let k = axes_refused _ _ (sym c.axes_or_length.ensures ∙ c.in_err-n.was) in
     rw (passed_on c.from_residual.ensures.1 refl, k.1) (sample_none _ _ k.0)
 
 pub loop-k-init : goal.loop-k-init
@@ -44,12 +44,12 @@ loop-k-init c =
 pub sample_row-requires : goal.sample_row-requires
 sample_row-requires c =
     let t = c.args.table.now in
-    let n = axes_counted _ _ (sym c.axes_in.ensures ∙ c.in_ok-n.was) in
+    let n = axes_counted _ _ (sym c.axes_or_length.ensures ∙ c.in_ok-n.was) in
     (omega (arith, n, axes_most (length t)), omega (arith, n, axes_fit (length t)))
 
 pub note-masks-requires : goal.note-masks-requires
 note-masks-requires c =
-    let n = axes_counted _ _ (sym c.axes_in.ensures ∙ c.in_ok-n.was) in
+    let n = axes_counted _ _ (sym c.axes_or_length.ensures ∙ c.in_ok-n.was) in
     (omega (arith, n, axes_most (length c.args.table.now)), rw c.loop-k.invariant.masks (masks_below _ _ _))
 
 pub loop-k-preserved : goal.loop-k-preserved
@@ -57,5 +57,5 @@ loop-k-preserved c = next c.loop-k.invariant c.sample_row.ensures c.note-masks.e
 
 pub returns : goal.returns
 returns c =
-    let n = axes_counted _ _ (sym c.axes_in.ensures ∙ c.in_ok-n.was) in
+    let n = axes_counted _ _ (sym c.axes_or_length.ensures ∙ c.in_ok-n.was) in
     ended c.loop-k.invariant (omega (arith, n)) (omega (arith, n))

@@ -1,11 +1,9 @@
-use Rattle.axis.specs.Limit.{most_axes}
-use Rattle.table_rows.proofs.LocatedLaws.{axes_held, axes_none}
+use mathlib.Core.Path.{sym, ◌∙◌}
+use Rattle.table_rows.proofs.LocatedLaws.{axes_counted, axes_refused}
 use Rattle.table_rows.proofs.axes_in.Goals as goal
 
-pub returns-then-len : goal.returns-then-len
-unfolding most_axes
-returns-then-len c = axes_held c.args.len c.if-len.true
+pub returns-in-Ok : goal.returns-in-Ok
+returns-in-Ok c = sym (axes_counted _ _ (sym c.axes_or_length.ensures ∙ c.in-Ok.is)).0
 
-pub returns : goal.returns
-unfolding most_axes
-returns c = axes_none c.args.len c.if-len.false
+pub returns-in-Err : goal.returns-in-Err
+returns-in-Err c = sym (axes_refused _ _ (sym c.axes_or_length.ensures ∙ c.in-Err.is)).0

@@ -11,10 +11,10 @@ use Rattle.row_calls.proofs.change.arm.Goals as goal
 pub returns-in_err-armed : goal.returns-in_err-armed
 unfolding arm_row
 returns-in_err-armed c =
-    passed_on c.from_residual.ensures.1 (sampled_stops Err _ c.args.r (sym c.sampled.ensures ∙ c.in_err-armed.was))
+    passed_on c.from_residual.ensures.1 (sampled_stops Err _ c.args.r (sym c.on_sampled.ensures ∙ c.in_err-armed.was))
 
 pub returns : goal.returns
 unfolding changed arm_row
 returns c =
     ap Ok (rw c.armed.view_is at c.row.ensures)
-    ∙ sampled_goes Err (λ (a : Axis). Ok (row_of (arm_axis a))) _ c.args.r (sym c.sampled.ensures ∙ c.in_ok-armed.was)
+    ∙ sampled_goes Err (λ (a : Axis). Ok (row_of (arm_axis a))) _ c.args.r (sym c.on_sampled.ensures ∙ c.in_ok-armed.was)

@@ -3,7 +3,7 @@ use Rattle.refusal.proofs.PassLaws.{passed_on}
 use Rattle.row_calls.proofs.StatusLaws.{held_position}
 use Rattle.row_counter.proofs.ReadingLaws.{read_in_range}
 use Rattle.table_rows.proofs.LocatedLaws.{found_fits}
-use Rattle.table.proofs.CallLaws.{not_read, found_unread, found_reads}
+use Rattle.table.proofs.CallLaws.{not_read, found_unread, found_commits}
 use Rattle.table.proofs.reading.reading.Goals as goal
 
 pub returns-in_err-row : goal.returns-in_err-row
@@ -16,11 +16,11 @@ returns-in_err-position c =
     rw (passed_on c.from_residual-in_err-position.ensures.1 refl)
     (found_unread _ _ _ _ _ (sym c.locate.ensures ∙ c.in_ok-row.was) k.0 k.1)
 
-pub write_row-requires : goal.write_row-requires
-write_row-requires c = found_fits _ _ _ (sym c.locate.ensures ∙ c.in_ok-row.was)
+pub commit-requires : goal.commit-requires
+commit-requires c = found_fits _ _ _ (sym c.locate.ensures ∙ c.in_ok-row.was)
 
 pub returns : goal.returns
 returns c =
     let k = rw c.in_ok-position.was at c.read.ensures in
     let h = held_position c.in_ok-position.position (read_in_range c.args.reading c.in_ok-row.row c.in_ok-position.position (sym k.0)) in
-    rw h (found_reads _ _ _ _ _ _ (sym c.locate.ensures ∙ c.in_ok-row.was) k.0 k.1 c.write_row.ensures)
+    rw h (found_commits _ _ _ _ _ (sym c.locate.ensures ∙ c.in_ok-row.was) k.0 k.1 c.commit.ensures)

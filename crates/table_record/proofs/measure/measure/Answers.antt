@@ -1,20 +1,24 @@
-use mathlib.Core.Path.{◌∙◌}
-use native.Mathlib.Omega.{arith}
+use mathlib.Core.Path.{sym, ap, ◌∙◌}
+use mathlib.Core.List.{List}
+use Prim.Native.Nat.{ℕ}
 use lib.ListN.{length}
-use Rattle.table_rows.proofs.RowsLaws.{axes_most}
-use Rattle.table_record.proofs.SizeLaws.{size_none, size_next, size_small}
+use Rattle.table_rows.specs.Table.{axes_in}
+use Rattle.table_record.specs.declared.measure.Size.{Size}
+use Rattle.table_record.specs.Saving.{size_to}
+use Rattle.table_record.proofs.RowsLaws.{rows_some, rows_none}
+use Rattle.table_record.proofs.SizeLaws.{size_none}
 use Rattle.table_record.proofs.measure.measure.Goals as goal
 
-pub loop-k-init : goal.loop-k-init
-loop-k-init c = let e = c.default-size.ensures in size_none c.default-size.result c.args.rows.now e.0 e.1.0 e.1.1
+pub returns-in-Ok : goal.returns-in-Ok
+returns-in-Ok c =
+    let k = rows_some c.args.table.now (sym c.try_from.ensures ∙ c.in-Ok.is) in
+    c.size_of.ensures
+    ∙ ap (λ (u : List ℕ). size_to (axes_in (length u)) u) k.0
+    ∙ ap (λ (n : ℕ). size_to n c.args.table.now) (sym c.requires)
 
-pub with_row-size-requires : goal.with_row-size-requires
-with_row-size-requires c =
-    let s = size_small c.loop-k.k c.args.rows.now in
-    let m = axes_most (length c.args.rows.now) in
-    rw c.loop-k.invariant (omega (arith, s.0, c.count-k-end.ensures), omega (arith, s.1, c.count-k-end.ensures))
-
-pub loop-k-preserved : goal.loop-k-preserved
-loop-k-preserved c =
-    let l = c.loop-k in
-    c.with_row-size.ensures ∙ rw (l.invariant, c.said_by.ensures, c.row.ensures) (size_next l.k c.args.rows.now)
+pub returns-in-Err : goal.returns-in-Err
+returns-in-Err c =
+    let k = rows_none c.args.table.now (sym c.try_from.ensures ∙ c.in-Err.is) in
+    let z = c.default.ensures in
+    size_none c.default.result c.args.table.now z.0 z.1.0 z.1.1
+    ∙ ap (λ (n : ℕ). size_to n c.args.table.now) (sym (c.requires ∙ k.0))

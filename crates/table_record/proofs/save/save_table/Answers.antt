@@ -67,30 +67,30 @@ returns-in_err-rows c =
     rw r (save_none c.args.table.now c.args.buf.now k.0)
 
 pub returns-then-size : goal.returns-then-size
-returns-then-size c = broken _ _ (sym c.try_from.ensures ∙ c.in_ok-rows.was) c.measure-size.ensures c.if-size.true
+returns-then-size c = broken _ _ (sym c.try_from.ensures ∙ c.in_ok-rows.was) c.size_of-size.ensures c.if-size.true
 
 pub overflow_add-size : goal.overflow_add-size
 unfolding most_axes
 overflow_add-size c = record {
-  fits = omega (arith, small c.args.table.now c.args.buf.now (sym c.try_from.ensures ∙ c.in_ok-rows.was) c.measure-size.ensures);
+  fits = omega (arith, small c.args.table.now c.args.buf.now (sym c.try_from.ensures ∙ c.in_ok-rows.was) c.size_of-size.ensures);
 }
 
 pub returns-then-buf-size : goal.returns-then-buf-size
-returns-then-buf-size c = short _ _ (sym c.try_from.ensures ∙ c.in_ok-rows.was) c.measure-size.ensures c.if-size.false c.if-buf-size.true
+returns-then-buf-size c = short _ _ (sym c.try_from.ensures ∙ c.in_ok-rows.was) c.size_of-size.ensures c.if-size.false c.if-buf-size.true
 
 pub put_rows-at-requires : goal.put_rows-at-requires
 put_rows-at-requires c =
     let p = c.put_table_front-at in
-    omega (arith, room _ _ (sym c.try_from.ensures ∙ c.in_ok-rows.was) c.measure-size.ensures c.if-buf-size.false p.ensures p.auto.buf)
+    omega (arith, room _ _ (sym c.try_from.ensures ∙ c.in_ok-rows.was) c.size_of-size.ensures c.if-buf-size.false p.ensures p.auto.buf)
 
 pub put_field-requires : goal.put_field-requires
 put_field-requires c =
     let p = c.put_table_front-at in
     let q = c.put_rows-at in
-    let r = room _ _ (sym c.try_from.ensures ∙ c.in_ok-rows.was) c.measure-size.ensures c.if-buf-size.false p.ensures p.auto.buf in
+    let r = room _ _ (sym c.try_from.ensures ∙ c.in_ok-rows.was) c.size_of-size.ensures c.if-buf-size.false p.ensures p.auto.buf in
     omega (arith, r, q.auto.buf, q.ensures.behind)
 
 pub returns : goal.returns
 returns c =
-    wrote _ _ (sym c.try_from.ensures ∙ c.in_ok-rows.was) c.measure-size.ensures c.if-size.false c.if-buf-size.false c.put_table_front-at.ensures
+    wrote _ _ (sym c.try_from.ensures ∙ c.in_ok-rows.was) c.size_of-size.ensures c.if-size.false c.if-buf-size.false c.put_table_front-at.ensures
     c.put_rows-at.ensures c.put_field.ensures
