@@ -3,7 +3,6 @@ use mathlib.Core.List.{List}
 use Prim.Native.Nat.{ℕ}
 use lib.ListN.{length}
 use Rattle.table_rows.specs.Table.{axes_in}
-use Rattle.table_record.specs.declared.measure.Size.{Size}
 use Rattle.table_record.specs.Saving.{size_to}
 use Rattle.table_record.proofs.RowsLaws.{rows_some, rows_none}
 use Rattle.table_record.proofs.SizeLaws.{size_none}
